@@ -56,7 +56,7 @@ pub use Rattle.gpu_descriptor.specs.Inner.Releases.{Compares, IsTakenAt, Release
 pub use Rattle.gpu_descriptor.specs.Inner.RunSteps.{EndsRun, RunStep}
 pub use Rattle.gpu_descriptor.specs.Inner.Serves.{Appends, IsUnserved, ServesKey, Takes}
 pub use Rattle.gpu_descriptor.specs.Inner.SetAt.{set_at}
-pub use Rattle.gpu_descriptor.specs.Inner.Stored.{IsConsistent, books_in, bucket_of, kept_in, row_of, stored_keys}
+pub use Rattle.gpu_descriptor.specs.Inner.Stored.{IsConsistent, books_in, bucket_of, count_flagged, flag_of, kept_in, row_of, stored_keys}
 pub use Rattle.gpu_descriptor.specs.Inner.Walk.{Adds, CountsLooks, HasTaken, IsAsked, IsRefused, IsWalked}
 pub use Rattle.gpu_descriptor.specs.Model.Cleanup.{LosesEmpty, gone_of, left_of, pools_lost, with_pools, without_empty}
 pub use Rattle.gpu_descriptor.specs.Model.Foreign.{IsForeign, IsNamed, KeepsForeign}

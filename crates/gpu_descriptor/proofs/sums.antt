@@ -1,3 +1,4 @@
+pub mod Flags
 pub mod Loads
 pub mod OutSets
 pub mod PoolCounts

@@ -1,5 +1,5 @@
 //! The pools of one key.
-ghost use Rattle.std.specs.Prelude.{◌≡◌, ◌+◌, ◌<◌, ◌≤◌, ◌^◌, length, nat_lt, true};
+ghost use Rattle.std.specs.Prelude.{◌≡◌, ◌+◌, ◌-◌, ◌<◌, ◌≤◌, ◌^◌, All, if◌then◌else◌, length, nat_lt, false, true};
 ghost use Rattle.std.specs.VecDeque.{deque_capacity};
 ghost use Rattle.gpu_descriptor_types.specs.Bounds.{greatest_u64};
 ghost use Rattle.gpu_descriptor.specs.Inner.OpenOrdinals.{first_ordinal, free_in, open_ordinals};
@@ -58,12 +58,18 @@ pub(crate) struct DescriptorBucket<P> {
 
     /// Number of sets allocated from these pools.
     pub(crate) total: u64,
+
+    /// Whether a pool may have no set. While it is false each pool has one, and without pools it is
+    /// false. A pool that gets sets again leaves it as it is; a trim makes it false.
+    pub(crate) may_have_empty: bool,
     ghost ordinal: { first ≡ first_ordinal pools.items },
     ghost numbered: { number_after (numbers_of pools.items) < 2 ^ 64 },
     ghost rising: { rises (numbers_of pools.items) ≡ true },
     ghost counted: { total ≡ allocated_in pools.items },
     ghost open: { listed.items ≡ open_ordinals (first_ordinal pools.items) (free_in pools.items) },
     ghost capacity: { length pools.items ≤ deque_capacity listed },
+    ghost full: { may_have_empty ≡ false → All (λ pool. 0 < pool.allocated) pools.items },
+    ghost some: { may_have_empty ≡ true → 0 < length pools.items },
 }
 
 impl<P> DescriptorBucket<P> {
@@ -72,6 +78,19 @@ impl<P> DescriptorBucket<P> {
         ensures { result ≡ number_after (numbers_of self.now.pools.items) }
     {
         self.first + self.pools.len() as u64
+    }
+
+    /// Counts the key of this bucket anew, among those that may have a pool without sets. `was` says
+    /// whether it was counted.
+    #[inline(always)]
+    pub(crate) fn count_anew(&self, was: bool, counted: &mut u64)
+        requires was { (if was then 1 else 0) ≤ counted.old }
+        requires fits { counted.old - (if was then 1 else 0)
+            + (if self.now.may_have_empty then 1 else 0) < 2 ^ 64 }
+        ensures { counted.new ≡ counted.old - (if was then 1 else 0)
+            + (if self.now.may_have_empty then 1 else 0) }
+    {
+        *counted = *counted - u64::from(was) + u64::from(self.may_have_empty);
     }
 
     /// The ordinal of the first pool.

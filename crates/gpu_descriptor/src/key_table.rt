@@ -9,7 +9,7 @@ ghost use Rattle.gpu_descriptor.specs.Inner.Buckets.{AreBookedIn};
 ghost use Rattle.gpu_descriptor.specs.Inner.Ids.{is_of, stored_ids};
 ghost use Rattle.gpu_descriptor.specs.Inner.KeyOf.{key_of};
 ghost use Rattle.gpu_descriptor.specs.Inner.Serves.{ServesRequest};
-ghost use Rattle.gpu_descriptor.specs.Inner.Stored.{books_in, row_of, stored_keys};
+ghost use Rattle.gpu_descriptor.specs.Inner.Stored.{books_in, count_flagged, row_of, stored_keys};
 ghost use Rattle.gpu_descriptor.specs.Model.Books.{key_eq, rises, sum_over};
 ghost use Rattle.gpu_descriptor.specs.Model.Load.{sets_out};
 
@@ -40,7 +40,11 @@ pub(crate) struct KeyTable<P> {
 
     /// A hint: the place of the key that was found last.
     pub(crate) last: usize,
+
+    /// How many keys may have a pool without sets, as their buckets say.
+    pub(crate) with_empty: u64,
     ghost rising: { rises (stored_ids buckets.entries ++ next_id ∷ []) ≡ true },
+    ghost flagged: { with_empty ≡ count_flagged buckets.entries },
     ghost distinct: { IsDistinct key_eq (stored_keys buckets.entries) } by { IsDistinct-prop key_eq
         (stored_keys buckets.entries) },
 }
@@ -55,6 +59,7 @@ impl<P> KeyTable<P> {
             next_id: ids.start,
             end_id: ids.end,
             last: 0,
+            with_empty: 0,
         }
     }
 
@@ -185,6 +190,7 @@ impl<P: Drop> KeyTable<P> {
             pools: VecDeque::new(request.alloc),
             listed: VecDeque::new(request.alloc),
             total: 0,
+            may_have_empty: false,
         };
         bucket.prepare(request.count, sink)?;
         let ended = bucket.take(device, request, budget, sink);

@@ -1,8 +1,10 @@
 -- A trim of one key, k, in the table: for `trim_layout`. es and fs are the map's entries before and after, v and w the key's bucket then.
-use Rattle.gpu_descriptor.proofs.Common.{IsDistinct, ◌≡◌, ℕ, true, if◌then◌else◌, List, length, map, slice_get, slice_get-map, None, Some, sym, ap, ◌∙◌, Counters, Ledger, BucketKey, DescriptorBucket, State, Key, key_eq, Bucket, no_pools, Allocations, arith, common_steps}
+use Rattle.gpu_descriptor.proofs.Common.{Meaning, side, [], IsDistinct, cases_Bool, inl, inr, refl, ◌≡◌, ℕ, true, if◌then◌else◌, List, length, map, slice_get, slice_get-map, None, Some, sym, ap, ◌∙◌, Counters, Ledger, BucketKey, DescriptorBucket, State, Key, key_eq, Bucket, Allocations, arith, common_steps}
 use Rattle.gpu_descriptor.proofs.Common.{are_named, gone_of, left_of, ledger_but, more_destroyed, without_empty, bucket_of, row_of, state_of, stored_keys}
+use Rattle.gpu_descriptor.specs.Caller.CleansUp.{TrimsKey}
 use Rattle.indexmap.specs.Layout.{set_value_at}
 use Rattle.gpu_descriptor.proofs.cleanup.Rotation.{none_destroyed}
+use Rattle.gpu_descriptor.proofs.cleanup.Splitting.{gone_twice}
 use Rattle.gpu_descriptor.proofs.request.Requested.{books_at}
 use Rattle.gpu_descriptor.proofs.table.Exact.{key_exact}
 use Rattle.gpu_descriptor.proofs.table.RowAt.{IsAt, present, written}
@@ -42,10 +44,26 @@ module _ {P : Type 0} (k : Key) (es : List (BucketKey × DescriptorBucket P)) wh
       pub destroyed_row : after.counters ≡ more_gone before ((state_of name a before).books k)
       destroyed_row = ap (λ (l : Ledger). l.counters) gone ∙ ap (more_gone before) (sym own_books)
 
--- a key without pools loses none
-module _ (k : Key) (s : State) (none : s.books k ≡ no_pools) where
-  pub nothing_trimmed : s ≡ without_empty k s
-  nothing_trimmed = grind (arith, common_steps, key_exact)
+-- a key each of whose pools has a set loses none
+module _ {L P S : Type 0} (means : Meaning L P S) (k : Key) (a : Allocations P) (l : Ledger) (left : ((state_of means.pool_name a l).books k).pools ≡ left_of true ((state_of means.pool_name a l).books k).pools) where
+  abbrev s : State
+  s = state_of means.pool_name a l
 
-  pub nothing_destroyed : (l : Ledger) → l.counters ≡ more_gone l (s.books k)
-  nothing_destroyed l = ap (λ (l : Ledger). l.counters) (none_destroyed l) ∙ ap (more_gone l) (sym none)
+  none_goes : gone_of true (s.books k).pools ≡ []
+  none_goes = ap (gone_of true) left ∙ gone_twice true (s.books k).pools
+
+  books_stay : (m : Key) → s.books m ≡ (without_empty k s).books m
+  books_stay m = elim (cases_Bool (key_eq k m)) [
+    | inl own ↦ rw own (ap s.books (sym (key_exact.same k m own)) ∙ (λ i. record (s.books k) { pools = left i }))
+    | inr other ↦ rw other refl
+  ]
+
+  pub nothing_trimmed : TrimsKey means k (side a l) (side a l)
+  nothing_trimmed = record {
+    trimmed = (let ledger : (p : ℕ) → l.pools p ≡ (without_empty k s).ledger p = λ p. ap (λ gone. if are_named gone p then None else l.pools p) (sym none_goes) in λ i. record { books = λ m. books_stay m i; ledger = λ p. ledger p i });
+    destroyed = ap (λ (l : Ledger). l.counters) (none_destroyed l) ∙ ap (λ gone. more_destroyed (length gone) l.counters) (sym none_goes);
+    keys = refl;
+    outstanding_stay = λ t. refl;
+    totals_stay = (refl, refl);
+    counts_stay = (refl, refl);
+  }

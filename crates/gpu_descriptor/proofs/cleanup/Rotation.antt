@@ -1,9 +1,9 @@
 -- Pools are taken from the front, one after another: an empty one is destroyed, and any other goes to the back.
 -- For `destroy_without_sets`, the loop of a trim. old are the pools before it, now those after n were taken, and x is the next; after
 -- the last one the pools with sets are left, in their order (`end`).
-use Rattle.gpu_descriptor.proofs.Common.{common_steps, ◌≡◌, ℕ, suc, ◌+◌, ◌<◌, ◌≤◌, Bool, true, false, nat_lt, List, [], ◌∷◌, ◌++◌, length, take, drop, map, filter, slice_get, Some, None, inl, inr, refl, sym, ap, ◌∙◌, subst, arith, eq-eqb, ne_eqb, lt-ltb, ltb-false, sum_by, cases_Bool, append-nil}
-use Rattle.gpu_descriptor.proofs.Common.{append_assoc, length-append, map-append, list_any-append, if◌then◌else◌, take_all, drop_all, Ledger, HasNoSets, after_destroy, DescriptorPool, Key, Entry, AreBookedIn, ledger_but, are_named, gone_of, is_empty, entry_of, has_sets, more_destroyed}
-use Rattle.std.proofs.lemmas.List.Elements.{filter-append}
+use Rattle.gpu_descriptor.proofs.Common.{common_steps, ◌≡◌, ℕ, suc, ◌+◌, ◌<◌, ◌≤◌, Bool, true, false, nat_lt, List, [], ◌∷◌, ◌++◌, length, take, drop, map, filter, slice_get, Some, None, inl, inr, refl, sym, ap, ◌∙◌, subst, arith, eq-eqb, ne_eqb, lt-ltb, ltb-false, ltb-true, sum_by, cases_Bool, append-nil}
+use Rattle.gpu_descriptor.proofs.Common.{All, append_assoc, length-append, map-append, list_any-append, if◌then◌else◌, take_all, drop_all, Ledger, HasNoSets, after_destroy, DescriptorPool, Key, Entry, AreBookedIn, ledger_but, are_named, gone_of, left_of, is_empty, entry_of, has_sets, more_destroyed}
+use Rattle.std.proofs.lemmas.List.Elements.{All-head, All-tail, All-weaker, filter-append, filter_passes}
 use Rattle.gpu_descriptor.proofs.cleanup.RowsCleaned.{sum_filter}
 use Rattle.gpu_descriptor.proofs.lists.AtPlaces.{drop_at, take_get}
 use Rattle.gpu_descriptor.proofs.release.FrontPool.{front_unused, step_stored}
@@ -102,9 +102,23 @@ module _ {P : Type 0} where
   entries_left name [] = refl
   entries_left name (p ∷ pools) = grind (arith, common_steps, (entries_left name pools))
 
+  pub none_empty : (name : P → ℕ) (pools : List (DescriptorPool P)) → filter has_sets pools ≡ pools → map (entry_of name) pools ≡ left_of true (map (entry_of name) pools)
+  none_empty name pools full = ap (map (entry_of name)) (sym full) ∙ entries_left name pools
+
   pub length_left : (pools : List (DescriptorPool P)) → length (filter has_sets pools) ≤ length pools
   length_left [] = omega arith
   length_left (p ∷ pools) = (let rest = length_left pools in elim (cases_Bool (has_sets p)) [ inl some ↦ rw some (omega arith) | inr none ↦ rw none (omega arith) ])
+
+  -- each of them has one, and where each pool has one all are left
+  abbrev pub Has : DescriptorPool P → Type 0
+  Has p = 0 < p.allocated
+
+  pub each_left : (pools : List (DescriptorPool P)) → All Has (filter has_sets pools)
+  each_left pools = All-weaker _ _ (λ p some. ltb-true 0 p.allocated some) (filter has_sets pools) (filter_passes has_sets pools)
+
+  pub all_left : (pools : List (DescriptorPool P)) → All Has pools → filter has_sets pools ≡ pools
+  all_left [] all = refl
+  all_left (p ∷ pools) all = rw (lt-ltb 0 p.allocated (All-head Has p pools all)) (ap (λ l. p ∷ l) (all_left pools (All-tail Has p pools all)))
 
   -- no other pool has one
   pub sets_left : (pools : List (DescriptorPool P)) → sum_by (λ p. p.allocated) (filter has_sets pools) ≡ sum_by (λ p. p.allocated) pools

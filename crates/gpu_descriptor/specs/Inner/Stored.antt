@@ -1,5 +1,5 @@
 -- The table of keys, as the code has it: how its buckets and rows are read from it, and its totals.
-use Rattle.std.specs.Prelude.{◌≡◌, ℕ, ◌+◌, ◌≤◌, List, map}
+use Rattle.std.specs.Prelude.{◌≡◌, ℕ, ◌+◌, ◌≤◌, if◌then◌else◌, List, map, sum_by}
 use Rattle.gpu_descriptor.specs.declared.key.BucketKey.{BucketKey}
 use Rattle.gpu_descriptor.specs.declared.bucket.DescriptorBucket.{DescriptorBucket}
 use Rattle.gpu_descriptor.specs.Model.Books.{Key, BucketOf, Bucket, books_of, sum_over}
@@ -19,6 +19,13 @@ module _ {P : Type 0} where
   -- the keys of a table, in its order
   abbrev pub stored_keys : List (BucketKey × DescriptorBucket P) → List Key
   stored_keys es = map (λ r. key_of r.0) es
+
+  -- what an entry adds to the number of keys that may have a pool without sets, and that number
+  abbrev pub flag_of : BucketKey × DescriptorBucket P → ℕ
+  flag_of r = if r.1.may_have_empty then 1 else 0
+
+  abbrev pub count_flagged : List (BucketKey × DescriptorBucket P) → ℕ
+  count_flagged es = sum_by flag_of es
 
   -- the running totals are those of the table, the marked descriptors keep the limit, and room is
   -- what those of the pools leave of it

@@ -102,9 +102,18 @@ impl<P, S> DescriptorAllocator<P, S> {
     {
         let place = self.table.place_of_id(first.id);
         self.table.last = place;
+
+        // A proof knows that an id has 64 bits only where it is read, and so that the count of keys has.
+        prove!(self.table.with_empty <= self.table.next_id);
         let (key, bucket) = self.table.buckets.pair_mut(place);
         let before = bucket.total;
-        let ahead = bucket.release_sets(device, first, sets, &mut self.comparisons);
+        let ahead = bucket.release_sets(
+            device,
+            first,
+            sets,
+            &mut self.comparisons,
+            &mut self.table.with_empty,
+        );
         bucket.destroy_empty_front(device, key, &mut self.budget.room, 1);
         let released = before - bucket.total;
         self.outstanding -= released;

@@ -119,6 +119,7 @@ impl<P> DescriptorBucket<P> {
         ensures appends { Appends D.meaning request.now.layout.now request.now.count sink.new.left
             (K.items sink.old.sets) (K.items sink.new.sets) }
         ensures id_stays { self.new.id ≡ self.old.id }
+        ensures flag_stays { self.new.may_have_empty ≡ self.old.may_have_empty }
         ensures numbers_stay { numbers_of self.new.pools.items
             ≡ numbers_of self.old.pools.items }
         ensures total { self.new.total ≡ self.old.total

@@ -42,6 +42,7 @@ impl<P> DescriptorBucket<P> {
             (bucket_of D.meaning.pool_name self.old) }
         ensures ledger { D.ledger device.new ≡ ledger_but_front keep
             (bucket_of D.meaning.pool_name self.old) (D.ledger device.old) }
+        ensures flag { 0 < keep → self.new.may_have_empty ≡ self.old.may_have_empty }
         ensures total { self.new.total ≡ self.old.total }
         ensures room { room.new + pools_load (key_of key.now) self.new.pools.items
             ≡ room.old + pools_load (key_of key.now) self.old.pools.items }
@@ -50,6 +51,7 @@ impl<P> DescriptorBucket<P> {
             let front = self.pools.pop_front().unwrap();
             pop_if(&mut self.listed, front.available > 0);
             self.first = first_ordinal_of(&self.pools);
+            self.may_have_empty = (keep > 0) | !self.pools.is_empty();
             *room += key.marked_descriptors_of_pool(front.capacity);
             device.destroy_descriptor_pool(front.pool);
         }

@@ -123,6 +123,7 @@ impl<P> DescriptorBucket<P> {
             × IsRefused stop (D.ledger device.old) (D.ledger device.new)
             × StopsAtNew stop (key_of request.now.key) budget.old.room) }
         ensures id_stays { self.new.id ≡ self.old.id }
+        ensures flag_stays { self.new.may_have_empty ≡ self.old.may_have_empty }
         ensures bound { budget.new.bound ≡ budget.old.bound }
         ensures looks { CountsLooks budget.old.looks.count budget.new.looks.count
             (D.ledger device.old) (D.ledger device.new) }
@@ -169,6 +170,7 @@ impl<P> DescriptorBucket<P> {
     fn reserve_pool(&mut self) -> Result<(), AllocError>
         ensures pools { self.new.pools.items ≡ self.old.pools.items }
         ensures id_stays { self.new.id ≡ self.old.id }
+        ensures flag_stays { self.new.may_have_empty ≡ self.old.may_have_empty }
         ensures total { self.new.total ≡ self.old.total }
         ensures capacity { OnOk result (length self.new.pools.items < deque_capacity self.new.pools) }
         ensures listed { OnOk result (length self.new.pools.items
@@ -186,11 +188,13 @@ impl<P> DescriptorBucket<P> {
     fn push(&mut self, pool: DescriptorPool<P>)
         requires number { pool.number ≡ number_after (numbers_of self.old.pools.items) }
         requires numbers { pool.number + 1 < 2 ^ 64 }
+        requires some { 0 < pool.allocated }
         requires bound { self.old.total + pool.allocated < 2 ^ 64 }
         requires capacity { length self.old.pools.items < deque_capacity self.old.pools }
         requires listed { length self.old.pools.items < deque_capacity self.old.listed }
         ensures pools { self.new.pools.items ≡ self.old.pools.items ++ pool ∷ [] }
         ensures id_stays { self.new.id ≡ self.old.id }
+        ensures flag_stays { self.new.may_have_empty ≡ self.old.may_have_empty }
         ensures total { self.new.total ≡ self.old.total + pool.allocated }
     {
         let ordinal = pool.number;

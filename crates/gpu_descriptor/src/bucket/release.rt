@@ -1,5 +1,5 @@
 //! Freeing the sets of a run.
-ghost use Rattle.std.specs.Prelude.{◌≡◌, ◌+◌, ◌∷◌, ℕ, List, length, slice_get, IsTrue, OnSome, Some, false, true};
+ghost use Rattle.std.specs.Prelude.{◌≡◌, ◌+◌, ◌<◌, ◌^◌, ◌||◌, ◌∷◌, ℕ, List, if◌then◌else◌, length, slice_get, IsTrue, OnSome, Some, false, true};
 ghost use Rattle.std.specs.Iterator.{HoldsAlong, IsNearerEnd};
 ghost use Rattle.std.specs.List.{AllByRecursion};
 ghost use Rattle.gpu_descriptor_types.specs.Ledger.{CanDrain};
@@ -17,6 +17,21 @@ use crate::bucket::search::{enter_new, search_pools};
 use crate::set::DescriptorSet;
 use gpu_descriptor_types::{DescriptorDevice, Tally};
 
+/// Notes a pool of which sets were freed: if it has none left its bucket gets the flag, and is counted among
+/// those that have it.
+#[inline(always)]
+fn note_pool(may_have_empty: &mut bool, with_empty: &mut u64, is_empty: bool)
+    requires { with_empty.old + (if may_have_empty.old then 0 else 1) < 2 ^ 64 }
+    ensures flag { may_have_empty.new ≡ may_have_empty.old || is_empty }
+    ensures counts { with_empty.new + (if may_have_empty.old then 1 else 0)
+        ≡ with_empty.old + (if may_have_empty.new then 1 else 0) }
+{
+    if is_empty && !*may_have_empty {
+        *may_have_empty = true;
+        *with_empty += 1;
+    }
+}
+
 impl<P> DescriptorBucket<P> {
     /// Frees the sets of one run of this key in one device call.
     ///
@@ -33,6 +48,7 @@ impl<P> DescriptorBucket<P> {
         first: DescriptorSet<S>,
         sets: &mut I,
         comparisons: &mut Tally,
+        with_empty: &mut u64,
     ) -> Option<DescriptorSet<S>>
         requires ends { CanDrain I.can_next I.remaining sets.old }
         requires stored { AreBookedIn first.key.is (D.ledger device.old).pools
@@ -41,6 +57,9 @@ impl<P> DescriptorBucket<P> {
             (λ y. at_place first.id first.number y ≡ true) xs → IsTakenAt first.key.is first.number
             (names_of D.meaning.set_name (first ∷ xs)) (bucket_of D.meaning.pool_name self.old)
             (D.ledger device.old).pools) }
+        requires fits { with_empty.old + (if self.old.may_have_empty then 0 else 1) < 2 ^ 64 }
+        ensures counts { with_empty.new + (if self.old.may_have_empty then 1 else 0)
+            ≡ with_empty.old + (if self.new.may_have_empty then 1 else 0) }
         ensures ran { (run : List (DescriptorSet S)) ×
             EndsRun I.next_gives (at_place first.id first.number) sets.old run result sets.new ×
             Releases first.key.is first.number (names_of D.meaning.set_name (first ∷ run))
@@ -73,6 +92,7 @@ impl<P> DescriptorBucket<P> {
         let count = run.finish();
         pool.allocated -= count;
         pool.available += count;
+        note_pool(&mut self.may_have_empty, with_empty, pool.allocated == 0);
         self.total -= u64::from(count);
         enter_new(&mut self.listed, was_closed, ordinal, comparisons);
         ahead

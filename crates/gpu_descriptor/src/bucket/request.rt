@@ -85,6 +85,7 @@ impl<P: Drop> DescriptorBucket<P> {
         ensures appends { Appends D.meaning request.now.layout.now request.now.count sink.new.left
             (K.items sink.old.sets) (K.items sink.new.sets) }
         ensures id_stays { self.new.id ≡ self.old.id }
+        ensures flag_stays { self.new.may_have_empty ≡ self.old.may_have_empty }
         ensures total { self.new.total ≡ self.old.total
             + length (appended (K.items sink.old.sets) (K.items sink.new.sets)) }
         ensures all { OnOk result (sink.new.left ≡ 0) }

@@ -1,5 +1,5 @@
 //! The empty pools of a bucket, which a cleanup or a trim destroys.
-ghost use Rattle.std.specs.Prelude.{◌≡◌, ◌+◌, ◌<◌, ◌≤◌, ◌^◌, IsTrue, filter, length, map, true};
+ghost use Rattle.std.specs.Prelude.{◌≡◌, ◌+◌, ◌<◌, ◌≤◌, ◌^◌, IsTrue, filter, length, map, false, true};
 ghost use Rattle.std.specs.VecDeque.{deque_capacity};
 ghost use Rattle.gpu_descriptor.specs.Inner.Buckets.{AreBookedIn, ledger_but};
 ghost use Rattle.gpu_descriptor.specs.Inner.KeyOf.{key_of};
@@ -37,6 +37,7 @@ impl<P> DescriptorBucket<P> {
             } }
         ensures ledger { D.ledger device.new ≡ ledger_but (gone_of everywhere
             (bucket_of D.meaning.pool_name self.old).pools) (D.ledger device.old) }
+        ensures cleared { IsTrue everywhere → self.new.may_have_empty ≡ false }
         ensures total { self.new.total ≡ self.old.total }
         ensures room { room.new + pools_load (key_of key.now) self.new.pools.items
             ≡ room.old + pools_load (key_of key.now) self.old.pools.items }
@@ -45,7 +46,11 @@ impl<P> DescriptorBucket<P> {
             self.destroy_empty_front(device, key, room, 0);
             return;
         }
+        if !self.may_have_empty {
+            return;
+        }
         if all_have_sets(&self.pools) {
+            self.may_have_empty = false;
             return;
         }
         self.destroy_all_empty(device, key, room);
@@ -69,6 +74,7 @@ impl<P> DescriptorBucket<P> {
             } }
         ensures ledger { D.ledger device.new ≡ ledger_but (gone_of true
             (bucket_of D.meaning.pool_name self.old).pools) (D.ledger device.old) }
+        ensures cleared { self.new.may_have_empty ≡ false }
         ensures total { self.new.total ≡ self.old.total }
         ensures room { room.new + pools_load (key_of key.now) self.new.pools.items
             ≡ room.old + pools_load (key_of key.now) self.old.pools.items }
@@ -76,6 +82,7 @@ impl<P> DescriptorBucket<P> {
         destroy_without_sets(&mut self.pools, device, key, room);
         relist(&mut self.listed, &self.pools);
         self.first = first_ordinal_of(&self.pools);
+        self.may_have_empty = false;
     }
 }
 

@@ -53,6 +53,10 @@ pub(crate) struct DescriptorBucket<P> {
 
     /// Number of sets allocated from these pools.
     pub(crate) total: u64,
+
+    /// Whether a pool may have no set. While it is false each pool has one, and without pools it is
+    /// false. A pool that gets sets again leaves it as it is; a trim makes it false.
+    pub(crate) may_have_empty: bool,
 }
 
 impl<P> DescriptorBucket<P> {
@@ -60,6 +64,14 @@ impl<P> DescriptorBucket<P> {
     pub(crate) fn next_number(&self) -> u64
     {
         self.first + self.pools.len() as u64
+    }
+
+    /// Counts the key of this bucket anew, among those that may have a pool without sets. `was` says
+    /// whether it was counted.
+    #[inline(always)]
+    pub(crate) fn count_anew(&self, was: bool, counted: &mut u64)
+    {
+        *counted = *counted - u64::from(was) + u64::from(self.may_have_empty);
     }
 
     /// The ordinal of the first pool.

@@ -29,6 +29,9 @@ pub(crate) struct KeyTable<P> {
 
     /// A hint: the place of the key that was found last.
     pub(crate) last: usize,
+
+    /// How many keys may have a pool without sets, as their buckets say.
+    pub(crate) with_empty: u64,
 }
 
 impl<P> KeyTable<P> {
@@ -40,6 +43,7 @@ impl<P> KeyTable<P> {
             next_id: ids.start,
             end_id: ids.end,
             last: 0,
+            with_empty: 0,
         }
     }
 
@@ -145,6 +149,7 @@ impl<P> KeyTable<P> {
             pools: VecDeque::new(request.alloc),
             listed: VecDeque::new(request.alloc),
             total: 0,
+            may_have_empty: false,
         };
         bucket.prepare(request.count, sink)?;
         let ended = bucket.take(device, request, budget, sink);

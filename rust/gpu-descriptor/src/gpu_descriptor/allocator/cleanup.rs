@@ -33,7 +33,9 @@ impl<P, S> DescriptorAllocator<P, S> {
     {
         for place in 0..self.table.buckets.len() {
             let (key, bucket) = self.table.buckets.pair_mut(place);
+            let was = bucket.may_have_empty;
             bucket.destroy_empty(device, key, &mut self.budget.room, everywhere);
+            bucket.count_anew(was, &mut self.table.with_empty);
         }
         self.table.buckets.retain(
             |_key: &BucketKey, bucket: &mut DescriptorBucket<P>| -> bool
@@ -46,20 +48,26 @@ impl<P, S> DescriptorAllocator<P, S> {
     /// Destroys the pools of a layout's key that have no set, wherever they are. It allocates nothing and
     /// can't fail.
     ///
-    /// Layouts with the same counts and the same mark have one key, and share its pools. It takes a look-up
-    /// of the key, and goes over no other pools. The key stays, also without pools, until `cleanup` or `trim`
-    /// forgets it. The original has no such call. `device` must be that of all other calls.
+    /// Layouts with the same counts and the same mark have one key, and share its pools. It looks no key up
+    /// while no pool can be empty: a key counts from when a pool of it loses its last set until the key is
+    /// trimmed. Else it takes a look-up, and goes over no other pools. The key stays, also without pools,
+    /// until `cleanup` or `trim` forgets it. The original has no such call. `device` must be that of all
+    /// other calls.
     pub fn trim_layout<L, D: DescriptorDevice<L, P, S>>(
         &mut self,
         device: &mut D,
         layout: &SetLayout<L>,
     )
     {
+        if self.table.with_empty == 0 {
+            return;
+        }
         let key = layout.key();
         let Some(place) = self.table.place_of_key(&key) else {
             return;
         };
         let (key, bucket) = self.table.buckets.pair_mut(place);
+        self.table.with_empty -= u64::from(bucket.may_have_empty);
         bucket.destroy_empty(device, key, &mut self.budget.room, true);
     }
 }

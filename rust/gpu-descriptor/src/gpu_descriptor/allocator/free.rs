@@ -37,9 +37,15 @@ impl<P, S> DescriptorAllocator<P, S> {
     {
         let place = self.table.place_of_id(first.id);
         self.table.last = place;
+
         let (key, bucket) = self.table.buckets.pair_mut(place);
         let before = bucket.total;
-        let ahead = bucket.release_sets(device, first, sets);
+        let ahead = bucket.release_sets(
+            device,
+            first,
+            sets,
+            &mut self.table.with_empty,
+        );
         bucket.destroy_empty_front(device, key, &mut self.budget.room, 1);
         let released = before - bucket.total;
         self.outstanding -= released;

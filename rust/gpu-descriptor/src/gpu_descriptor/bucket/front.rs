@@ -31,6 +31,7 @@ impl<P> DescriptorBucket<P> {
             let front = self.pools.pop_front().unwrap();
             pop_if(&mut self.listed, front.available > 0);
             self.first = first_ordinal_of(&self.pools);
+            self.may_have_empty = (keep > 0) | !self.pools.is_empty();
             *room += key.marked_descriptors_of_pool(front.capacity);
             device.destroy_descriptor_pool(front.pool);
         }

@@ -7,6 +7,17 @@ use crate::gpu_descriptor::bucket::search::{enter_new, search_pools};
 use crate::gpu_descriptor::set::DescriptorSet;
 use crate::gpu_descriptor_types::DescriptorDevice;
 
+/// Notes a pool of which sets were freed: if it has none left its bucket gets the flag, and is counted among
+/// those that have it.
+#[inline(always)]
+fn note_pool(may_have_empty: &mut bool, with_empty: &mut u64, is_empty: bool)
+{
+    if is_empty && !*may_have_empty {
+        *may_have_empty = true;
+        *with_empty += 1;
+    }
+}
+
 impl<P> DescriptorBucket<P> {
     /// Frees the sets of one run of this key in one device call.
     ///
@@ -22,6 +33,7 @@ impl<P> DescriptorBucket<P> {
         device: &mut D,
         first: DescriptorSet<S>,
         sets: &mut I,
+        with_empty: &mut u64,
     ) -> Option<DescriptorSet<S>>
     {
         let id = first.id;
@@ -42,6 +54,7 @@ impl<P> DescriptorBucket<P> {
         let count = run.finish();
         pool.allocated -= count;
         pool.available += count;
+        note_pool(&mut self.may_have_empty, with_empty, pool.allocated == 0);
         self.total -= u64::from(count);
         enter_new(&mut self.listed, was_closed, ordinal);
         ahead

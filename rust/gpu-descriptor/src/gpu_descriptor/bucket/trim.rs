@@ -22,7 +22,11 @@ impl<P> DescriptorBucket<P> {
             self.destroy_empty_front(device, key, room, 0);
             return;
         }
+        if !self.may_have_empty {
+            return;
+        }
         if all_have_sets(&self.pools) {
+            self.may_have_empty = false;
             return;
         }
         self.destroy_all_empty(device, key, room);
@@ -41,6 +45,7 @@ impl<P> DescriptorBucket<P> {
         destroy_without_sets(&mut self.pools, device, key, room);
         relist(&mut self.listed, &self.pools);
         self.first = first_ordinal_of(&self.pools);
+        self.may_have_empty = false;
     }
 }
 

@@ -1,8 +1,9 @@
-use Rattle.gpu_descriptor.proofs.Common.{common_steps}
-use Rattle.gpu_descriptor.proofs.Common.{length, bucket_but_front, ◌≡◌, ◌+◌, ◌-◌, ℕ, arith, refl, sym, ap, ◌∙◌, List, [], ◌∷◌, subst, IsDistinct, Bucket, Key, key_eq, key_of, Allocations, DescriptorSet, items_of, state_of, binary_digits, rises, stored_ids, ◌++◌, pools_load, set_descriptors}
+use Rattle.gpu_descriptor.proofs.Common.{common_steps, length-map, slice_get_within}
+use Rattle.gpu_descriptor.proofs.Common.{Bool, flag_of, if◌then◌else◌, length, bucket_but_front, ◌≡◌, ◌+◌, ◌-◌, ℕ, arith, refl, sym, ap, ◌∙◌, List, [], ◌∷◌, subst, IsDistinct, Bucket, Key, key_eq, key_of, Allocations, DescriptorSet, items_of, state_of, binary_digits, rises, stored_ids, ◌++◌, pools_load, set_descriptors}
 use Rattle.indexmap.specs.Layout.{set_value_at}
 use Rattle.gpu_descriptor.proofs.callers.HeldSets.{out_back, out_less}
 use Rattle.gpu_descriptor.proofs.release.LentRow.{row_open, row_stored, row_taken, row_ran, row_counted}
+use Rattle.gpu_descriptor.proofs.sums.Flags.{few_entries, flag_counted, flags_below, flags_put, flags_room}
 use Rattle.gpu_descriptor.proofs.sums.Loads.{Taken, taken, load_fits, counted_after, out_after, load_after, run_load, pools_present, pools_set}
 use Rattle.gpu_descriptor.proofs.release.Owned.{Owns, ends_at, first_owns, lie_at, own_id, own_key}
 use Rattle.gpu_descriptor.proofs.request.Requested.{table_is}
@@ -72,6 +73,20 @@ run_taken : (g : _) (c : After-destroy_empty_front g) → IsAt c.args.first.key.
     → Taken c.args.first.key.is (c.pair_mut-bucket.result.1.now.total - c.destroy_empty_front.new.self.total) c.self.inside.table.buckets.entries (set_value_at c.self.inside.table.buckets.entries c.place_of_id-place.result c.destroy_empty_front.new.self)
 run_taken g c at = taken at c.destroy_empty_front.new.self (let total = went g c in omega arith)
 
+-- so the number of keys that may have a pool without sets stays right
+pub prove-unreachable-requires : goal.prove-unreachable-requires
+prove-unreachable-requires g c = (let below = flags_below c.self.inside.table.buckets.entries c.self.inside.table.next_id c.self.inside.table.rising in let is = c.self.inside.table.flagged in let above = c.if-prove.true in omega arith)
+
+pub pair_mut-bucket-requires : goal.pair_mut-bucket-requires
+pair_mut-bucket-requires g c = grind (arith, common_steps, length-map, slice_get_within)
+
+pub release_sets-ahead-requires-clause-fits : goal.release_sets-ahead-requires-clause-fits
+release_sets-ahead-requires-clause-fits g c =
+    let es = c.self.inside.table.buckets.entries in
+    let few = flags_room es c.place_of_id-place.result _ c.pair_mut-bucket.result.1.now c.pair_mut-bucket.ensures.value c.self.inside.table.flagged in
+    let ids = few_entries es c.self.inside.table.next_id c.self.inside.table.rising in
+    omega arith
+
 pub overflow_sub-self : goal.overflow_sub-self
 overflow_sub-self g c =
     let at = goal.at.overflow_sub-self g c in
@@ -111,6 +126,12 @@ invariant_of-self-inside-2 g c =
     record {
       rising = ap (λ (ids : List ℕ). rises (ids ++ c.self.inside.table.next_id ∷ [])) same ∙ c.self.inside.table.rising;
       distinct = subst (IsDistinct key_eq) (sym (keys_at es c.place_of_id-place.result c.destroy_empty_front.new.self)) c.self.inside.table.distinct;
+      flagged = (
+          let put = flags_put es c.place_of_id-place.result _ c.pair_mut-bucket.result.1.now c.pair_mut-bucket.ensures.value c.self.inside.table.flagged c.destroy_empty_front.new.self in
+          let was = flag_counted es c.place_of_id-place.result _ c.pair_mut-bucket.result.1.now c.pair_mut-bucket.ensures.value c.self.inside.table.flagged in
+          let same : flag_of (c.pair_mut-bucket.result.0.now, c.destroy_empty_front.new.self) ≡ (if c.release_sets-ahead.new.self.may_have_empty then 1 else 0) = ap (λ (is : Bool). if is then 1 else 0) (c.destroy_empty_front.ensures.flag (omega arith)) in
+          let counts = c.release_sets-ahead.ensures.counts in
+          omega arith);
     }
 
 pub invariant_of-self : goal.invariant_of-self

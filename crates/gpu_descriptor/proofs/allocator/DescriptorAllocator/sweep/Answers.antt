@@ -1,11 +1,12 @@
-use Rattle.gpu_descriptor.proofs.Common.{◌≡◌, ◌≤◌, ◌+◌, suc, rules, refl, sym, ap, subst, ◌∙◌, arith, length, map, length-map, take_all, Ledger, Bucket, key_of, Allocations, AreBookedIn, has_pools, rises, stored_ids, outstanding_of, marked_load_of, bucket_of, named_row, row_of, common_steps}
-use Rattle.gpu_descriptor.proofs.Common.{◌++◌, ◌∷◌, []}
+use Rattle.gpu_descriptor.proofs.Common.{◌≡◌, ◌≤◌, ◌+◌, suc, rules, refl, sym, ap, subst, ◌∙◌, arith, length, map, length-map, take_all, Ledger, Bucket, key_of, Allocations, AreBookedIn, has_pools, rises, stored_ids, outstanding_of, marked_load_of, bucket_of, named_row, row_of}
+use Rattle.gpu_descriptor.proofs.Common.{◌++◌, ◌∷◌, [], IsDistinct, key_eq}
 use Rattle.indexmap.proofs.CallerLemmas.{filter-RetainsPairs}
 use Rattle.indexmap.specs.Layout.{length-set_value_at}
 use Rattle.gpu_descriptor.proofs.table.Rising.{ids_put}
 use Rattle.gpu_descriptor.proofs.lists.Numbers.{rises_filter}
 use Rattle.gpu_descriptor.proofs.table.RowAt.{keys_at, value_at}
 use Rattle.gpu_descriptor.proofs.cleanup.Cleaning.{clean_agrees, takes_none}
+use Rattle.gpu_descriptor.proofs.sums.Flags.{flag_counted, flags_fit, flags_put, flags_filter}
 use Rattle.gpu_descriptor.proofs.sums.Loads.{rows_pool_load, stored_load_in, sum_put}
 use Rattle.gpu_descriptor.proofs.cleanup.KeyOrder.{keys_cleaned}
 use Rattle.gpu_descriptor.proofs.cleanup.RowsCleaned.{all_cleared, agree_is, cleared, counted_filter, counted_put, ledger_less, next, next_stored, step_less, step_rows, whole_clean, whole_count}
@@ -33,7 +34,25 @@ destroy_empty-requires-clause-room g c =
     omega arith
 
 pub invariant_of-self-inside : goal.invariant_of-self-inside
-invariant_of-self-inside g c = grind (arith, common_steps, keys_at, (ids_put c.loop-place.self-inside.table.buckets.entries c.loop-place.place c.pair_mut-bucket.result.1.now c.destroy_empty.new.self (value_at c.loop-place.self-inside.table.buckets.entries c.loop-place.place _ _ c.pair_mut-bucket.ensures.value) (ap (λ (b : Bucket). b.id) c.destroy_empty.ensures.books)))
+invariant_of-self-inside g c =
+    let es = c.loop-place.self-inside.table.buckets.entries in
+    let i = c.loop-place.place in
+    let at = c.pair_mut-bucket.ensures.value in
+    record {
+      rising = ap (λ ids. rises (ids ++ c.loop-place.self-inside.table.next_id ∷ [])) (ids_put es i c.pair_mut-bucket.result.1.now c.destroy_empty.new.self (value_at es i _ _ at) (ap (λ (b : Bucket). b.id) c.destroy_empty.ensures.books)) ∙ c.loop-place.self-inside.table.rising;
+      distinct = subst (IsDistinct key_eq) (sym (keys_at es i c.destroy_empty.new.self)) c.loop-place.self-inside.table.distinct;
+      flagged = c.count_anew.ensures ∙ flags_put es i _ _ at c.loop-place.self-inside.table.flagged c.destroy_empty.new.self;
+    }
+
+pub count_anew-requires : goal.count_anew-requires
+count_anew-requires g c =
+    let es = c.loop-place.self-inside.table.buckets.entries in
+    let counted = c.loop-place.self-inside.table.flagged in
+    let few = flags_fit es c.loop-place.place _ _ c.pair_mut-bucket.ensures.value counted c.destroy_empty.new.self in
+    let long = c.loop-place.invariant.long in
+    let small = c.len-place-end.ensures.small in
+    let is = c.len-place-end.ensures.len in
+    record { was = flag_counted es c.loop-place.place _ _ c.pair_mut-bucket.ensures.value counted; fits = omega arith }
 
 pub loop-place-preserved : goal.loop-place-preserved
 loop-place-preserved g c =
@@ -67,6 +86,7 @@ invariant_of-self-inside-2 g c =
     record {
       rising = ap (λ es. rises (stored_ids es ++ c.loop-place.self-inside.table.next_id ∷ [])) kept ∙ left;
       distinct = distinct_stored _ (λ k l. search rules) _ c.retain.ensures.unique;
+      flagged = c.loop-place.self-inside.table.flagged ∙ sym (flags_filter c.loop-place.self-inside.table.buckets.entries c.retain.new.self.entries kept);
     }
 
 pub invariant_of-self : goal.invariant_of-self

@@ -1,15 +1,16 @@
-use Rattle.gpu_descriptor.proofs.Common.{Agree, side, ◌≡◌, length-map, map, slice_get_within, refl, sym, ap, subst, ◌∙◌, arith, IsDistinct, Key, key_eq, key_of, layout_key, Bucket, Allocations, AreBookedIn, KeepsOutstanding, outstanding_of, marked_load_of, is_of, row_of, state_of, common_steps}
+use Rattle.gpu_descriptor.proofs.Common.{Agree, side, ℕ, if◌then◌else◌, ◌≡◌, length-map, map, slice_get_within, refl, sym, ap, subst, ◌∙◌, arith, IsDistinct, Key, key_eq, key_of, layout_key, left_of, true, Bucket, Allocations, AreBookedIn, KeepsOutstanding, outstanding_of, marked_load_of, is_of, row_of, state_of, common_steps}
 use Rattle.indexmap.specs.Layout.{set_value_at}
 use Rattle.gpu_descriptor.specs.Caller.CleansUp.{TrimsKey}
 use Rattle.gpu_descriptor.proofs.cleanup.Cleaning.{emptied_key}
 use Rattle.gpu_descriptor.proofs.cleanup.Emptied.{Empties, emptied_agree, emptied_outstanding}
-use Rattle.gpu_descriptor.proofs.cleanup.OneKey.{destroyed_row, key_there, nothing_destroyed, nothing_trimmed, own_books, trimmed_row}
+use Rattle.gpu_descriptor.proofs.cleanup.OneKey.{destroyed_row, key_there, nothing_trimmed, own_books, trimmed_row}
 use Rattle.gpu_descriptor.proofs.cleanup.RowsCleaned.{counted_put}
 use Rattle.gpu_descriptor.proofs.callers.Unchanged.{keeps_still}
 use Rattle.gpu_descriptor.proofs.foreign.OthersStay.{emptied_others}
 use Rattle.gpu_descriptor.proofs.request.InTable.{missing}
 use Rattle.gpu_descriptor.proofs.request.Requested.{books_at, load_within, pool_load_within, rows_apart, table_is}
 use Rattle.gpu_descriptor.proofs.request.StateAgrees.{booked_of}
+use Rattle.gpu_descriptor.proofs.sums.Flags.{byte_of, flag_counted, flags_put, none_flagged}
 use Rattle.gpu_descriptor.proofs.sums.Loads.{rows_pool_load, stored_load_in, sum_put}
 use Rattle.gpu_descriptor.proofs.table.Rising.{ids_put}
 use Rattle.gpu_descriptor.proofs.table.RowAt.{IsAt, keys_at, value_at}
@@ -46,7 +47,18 @@ destroy_empty-requires-clause-stored g c =
     (k, subst (λ (b : Bucket). AreBookedIn k before.pools b.pools) is (booked_of (state_of name c.args.self.now before) k c.requires.agree.books))
 
 pub invariant_of-self-inside : goal.invariant_of-self-inside
-invariant_of-self-inside g c = grind (arith, common_steps, ids_put, value_at, keys_at)
+invariant_of-self-inside g c = record {
+  rising = grind (arith, common_steps, ids_put, value_at);
+  distinct = grind (arith, common_steps, keys_at);
+  flagged = (
+      let put = flags_put c.self.inside.table.buckets.entries c.in-Some.place _ _ c.pair_mut-bucket.ensures.value c.self.inside.table.flagged c.destroy_empty.new.self in
+      let was = c.from.ensures ∙ byte_of c.pair_mut-bucket.result.1.now.may_have_empty in
+      let none = ap {B = ℕ} (λ is. if is then 1 else 0) (c.destroy_empty.ensures.cleared refl) in
+      omega arith);
+}
+
+pub overflow_sub-self : goal.overflow_sub-self
+overflow_sub-self g c = (let was = c.from.ensures ∙ byte_of c.pair_mut-bucket.result.1.now.may_have_empty in let is = flag_counted c.self.inside.table.buckets.entries c.in-Some.place _ _ c.pair_mut-bucket.ensures.value c.self.inside.table.flagged in omega arith)
 
 pub invariant_of-self : goal.invariant_of-self
 invariant_of-self g c = counted_put _ _ _ _ _ c.self.inside.table.buckets.entries c.in-Some.place _ _ c.destroy_empty.new.self c.pair_mut-bucket.ensures.value c.destroy_empty.ensures.total c.destroy_empty.ensures.room c.self.invariant
@@ -103,21 +115,22 @@ returns g c =
 pub returns-in_default : goal.returns-in_default
 returns-in_default g c =
     let means = g.D.DescriptorDevice.meaning in
-    let name = means.pool_name in
     let old = c.args.self.now in
     let before = g.D.DescriptorDevice.ledger c.args.device.now in
     let es = c.self.inside.table.buckets.entries in
     let k = key_of c.key-key.result in
-    let s = state_of name old before in
-    let none = books_at old es (table_is _ c.self.view_is) name before k ∙ missing name k es (is_of k) (λ l. refl) c.in_default.ensures.place in
+    let none = books_at old es (table_is _ c.self.view_is) means.pool_name before k ∙ missing means.pool_name k es (is_of k) (λ l. refl) c.in_default.ensures.place in
     record {
-      trims = subst (λ (key : Key). TrimsKey means key (side old before) (side old before)) (own g (goal.at.returns-in_default g c).After-key-key) (record {
-        trimmed = nothing_trimmed k s none;
-        destroyed = nothing_destroyed k s none before;
-        keys = refl;
-        outstanding_stay = λ t. refl;
-        totals_stay = (refl, refl);
-        counts_stay = (refl, refl);
-      });
+      trims = subst (λ (key : Key). TrimsKey means key (side old before) (side old before)) (own g (goal.at.returns-in_default g c).After-key-key) (nothing_trimmed means k old before (subst (λ (b : Bucket). b.pools ≡ left_of true b.pools) (sym none) refl));
       keeps = keeps_still refl refl c.requires.agree (load_within _ c.self.view_is c.self.invariant) (pool_load_within _ c.self.view_is c.self.invariant);
     }
+
+-- while no key may have an empty pool, none has one
+pub returns-then-self-eq0-clause-trims : goal.returns-then-self-eq0-clause-trims
+returns-then-self-eq0-clause-trims g c =
+    let means = g.D.DescriptorDevice.meaning in
+    let before = g.D.DescriptorDevice.ledger c.args.device.now in
+    let es = c.self.inside.table.buckets.entries in
+    let k = layout_key means c.args.layout.now.layout in
+    let full = none_flagged means.pool_name es k (let counted = c.self.inside.table.flagged in let none = c.if-self-eq0.true in omega arith) in
+    nothing_trimmed means k c.args.self.now before (subst (λ (b : Bucket). b.pools ≡ left_of true b.pools) (sym (books_at c.args.self.now es (table_is _ c.self.view_is) means.pool_name before k)) full)

@@ -1,4 +1,5 @@
-use Rattle.gpu_descriptor.proofs.Common.{common_steps, ◌≡◌, ◌+◌, drop, ◌<◌, ◌≤◌, ◌∙◌, sym, ap, arith, length, key_of, pool_descriptors, bucket_of, pools_load}
+use Rattle.gpu_descriptor.proofs.Common.{common_steps, ◌≡◌, ◌+◌, drop, ◌<◌, ◌≤◌, ◌||◌, not, lt-ltb, List, [], ◌∷◌, All, true, get_or, cases_Bool, inl, inr, DescriptorPool, ◌∙◌, sym, ap, arith, length, key_of, pool_descriptors, bucket_of, pools_load}
+use Rattle.std.proofs.lemmas.List.Elements.{All-head}
 use Rattle.gpu_descriptor.proofs.sums.PoolLoads.{stored_first}
 use Rattle.gpu_descriptor.proofs.release.StoredNumbers.{popped_numbers, popped_open}
 use Rattle.gpu_descriptor.proofs.release.FrontPool.{IsFront, is_front, turn_unused, turn, stop_full, stop_short, still}
@@ -10,6 +11,17 @@ front g c = grind (arith, common_steps, is_front)
 
 first_load : (g : _) (c : After-unwrap-front g) → pools_load (key_of c.args.key.now) c.loop-self.self.pools.items ≡ pool_descriptors (key_of c.args.key.now) c.unwrap-front.result.capacity + pools_load (key_of c.args.key.now) (drop 1 c.loop-self.self.pools.items)
 first_load g c = (let first = front g c in let some = first.long in stored_first (key_of c.args.key.now) c.loop-self.self.pools.items c.unwrap-front.result (omega arith) first.is)
+
+-- a pool that is destroyed has no set, so the bucket has its flag
+first_has : {P : Type 0} (pools : List (DescriptorPool P)) (p : DescriptorPool P) → 0 < length pools → p ≡ get_or pools 0 p → All (λ (q : DescriptorPool P). 0 < q.allocated) pools → 0 < p.allocated
+first_has {P} [] p some is all = absurd (omega arith)
+first_has {P} (x ∷ pools) p some is all = (let here = All-head (λ (q : DescriptorPool P). 0 < q.allocated) x pools all in let same = ap (λ (q : DescriptorPool P). q.allocated) is in omega arith)
+
+flagged : (g : _) (c : After-unwrap-front g) → c.loop-self.self.may_have_empty ≡ true
+flagged g c = elim (cases_Bool c.loop-self.self.may_have_empty) [
+  | inl on ↦ on
+  | inr off ↦ absurd (let f = front g c in let long = f.long in let none = f.empty in let some = first_has c.loop-self.self.pools.items c.unwrap-front.result (omega arith) f.is (c.loop-self.self.full off) in omega arith)
+]
 
 pub marked_descriptors_of_pool-requires : goal.marked_descriptors_of_pool-requires
 marked_descriptors_of_pool-requires g c = grind (arith, common_steps, first_load)
@@ -35,6 +47,7 @@ loop-self-preserved g c =
       stored = (c.loop-self.invariant.stored.0, done.agree);
       books = done.books ∙ c.loop-self.invariant.books;
       ledger = done.ledger ∙ c.loop-self.invariant.ledger;
+      flag = λ keeps. ap (λ is. is || not c.is_empty.result) (lt-ltb 0 c.args.keep keeps) ∙ sym (flagged g d) ∙ c.loop-self.invariant.flag keeps;
       total = c.loop-self.invariant.total;
       room = (
           let all = first_load g d in

@@ -1,5 +1,7 @@
-use Rattle.gpu_descriptor.proofs.Common.{names_of, greatest_pool_size, ◌≡◌, ℕ, List, set, ◌+◌, ◌<◌, ◌≤◌, ◌-◌, rules, arith, sym, refl, ◌∙◌, ap, subst, length, map, slice_get, [], ◌∷◌, Some, length-set, eqb-true, length-map, slice_get_read, DescriptorPool, Ledger, after_release, LiveSet, common_steps}
+use Rattle.gpu_descriptor.proofs.Common.{names_of, greatest_pool_size, ◌≡◌, ℕ, List, set, ◌+◌, ◌<◌, ◌≤◌, ◌-◌, rules, arith, sym, refl, ◌∙◌, ap, subst, length, map, slice_get, [], ◌∷◌, Some, length-set, eqb-false, eqb-true, length-map, or_parts, slice_get_read, DescriptorPool, Ledger, after_release, LiveSet, common_steps}
 use Rattle.gpu_descriptor.proofs.Common.{DescriptorSet, live_in, Entry, IsNonDecreasing, AreBookedIn, IsTakenAt, free_in, entry_less, bucket_of, entry_of, first_ordinal, number_after, rises, slice_set}
+use Rattle.std.proofs.lemmas.List.Elements.{All-set}
+use Rattle.gpu_descriptor.proofs.cleanup.Rotation.{Has}
 use Rattle.gpu_descriptor.proofs.lists.OpenOrdinals.{open_rises}
 use Rattle.gpu_descriptor.proofs.lists.OpenList.{listed_again, fewer_listed}
 use Rattle.gpu_descriptor.proofs.release.Comparisons.{listed_count}
@@ -138,6 +140,11 @@ invariant_of-self g c =
           (ap (λ (n : ℕ). n + c.place_of_pool-place.result) c.first_ordinal.ensures.first) some
           c.enter_new.new.listed.items c.enter_new.ensures.entered c.enter_new.ensures.stays);
       capacity = (let long = length-set c.args.self.now.pools.items c.place_of_pool-place.result new in omega arith);
+      full = λ off. (
+          let parts = or_parts c.args.self.now.may_have_empty _ (sym c.note_pool.ensures.flag ∙ off) in
+          let here = eqb-false _ _ parts.1 in
+          All-set Has c.args.self.now.pools.items c.place_of_pool-place.result new (omega arith) (c.args.self.now.full parts.0));
+      some = λ on. (let within = (is_at g r).within in omega arith);
     }
 
 pub enter_new-requires-clause-rising : goal.enter_new-requires-clause-rising

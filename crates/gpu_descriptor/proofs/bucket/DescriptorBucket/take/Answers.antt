@@ -25,6 +25,7 @@ loop-sink-init g c =
       appends = c.take_from_existing.ensures.appends;
       total = total;
       id_stays = c.take_from_existing.ensures.id_stays;
+      flag_stays = c.take_from_existing.ensures.flag_stays;
       numbers = (let same = ap number_after c.take_from_existing.ensures.numbers_stay in let all = c.take_from_existing.ensures.appends.rest in omega arith);
       growing = grow_start known c.take_from_existing.ensures.id_stays (let out = allocated_entries name c.args.self.now.pools.items in let counted = c.args.self.now.counted in let all = c.take_from_existing.ensures.appends.rest in omega arith);
       load = ap (λ n. c.args.budget.now.room + n) c.take_from_existing.ensures.load;
@@ -66,6 +67,7 @@ loop-sink-preserved g c =
       appends = appends_more inv.appends key c.loop-sink.self.id number got.0 got.1 got.2 got.5;
       total = (let a = inv.total in let b = got.3 in omega arith);
       id_stays = c.in_ok-take_from_new.ensures.id_stays ∙ inv.id_stays;
+      flag_stays = c.in_ok-take_from_new.ensures.flag_stays ∙ inv.flag_stays;
       numbers = (
           let a = inv.numbers in
           let is : number_after (numbers_of new') ≡ number_after (numbers_of c.take_from_new.new.self.pools.items) = ap number_after (numbers_stored g.D.DescriptorDevice.meaning.pool_name c.take_from_new.new.self.pools.items) in

@@ -9,6 +9,7 @@ invariant-loop-sink g l = record {
   appends : Appends g.D.DescriptorDevice.meaning l.fn.request.layout.now l.fn.request.count l.sink.left (g.K.SetPlaces.items l.fn.sink.sets) (g.K.SetPlaces.items l.sink.sets);
   total : l.self.total ≡ l.fn.self.total + length (appended (g.K.SetPlaces.items l.fn.sink.sets) (g.K.SetPlaces.items l.sink.sets));
   id_stays : l.self.id ≡ l.fn.self.id;
+  flag_stays : l.self.may_have_empty ≡ l.fn.self.may_have_empty;
   numbers : number_after (numbers_of l.self.pools.items) + l.sink.left ≤ number_after (numbers_of l.fn.self.pools.items) + l.fn.request.count;
   growing : Growing l.fn.budget.bound (key_of l.fn.request.key) l.fn.budget.room l.fn.request.count l.fn.self.id l.budget.room l.self.total l.sink.left
       (items_of g.D.DescriptorDevice.meaning.set_name (appended (g.K.SetPlaces.items l.fn.sink.sets) (g.K.SetPlaces.items l.sink.sets)))

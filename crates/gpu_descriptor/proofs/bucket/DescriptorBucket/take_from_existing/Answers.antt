@@ -1,5 +1,7 @@
 use Rattle.gpu_descriptor.proofs.Common.{◌≡◌, ℕ, ◌+◌, ◌-◌, ◌∷◌, [], length, length-append, length-map, length-set, append-nil, take, slice_get, slice_set, slice_get_read, Some, refl, sym, ap, ◌∙◌, arith, inl, inr, nat_eq, cases_Bool, eqb-false, DescriptorPool, Entry, key_of, first_ordinal, number_after, numbers_of, pools_load, rises, common_steps}
+use Rattle.std.proofs.lemmas.List.Elements.{All-get_or, All-set}
 use Rattle.std.proofs.lemmas.List.Sums.{sum_by-set}
+use Rattle.gpu_descriptor.proofs.cleanup.Rotation.{Has}
 use Rattle.gpu_descriptor.proofs.request.OpenWalk.{inside, has_free, numbers_now, first_now, listed_now, open_walk_start, open_walk_more, open_walk_stop, walk_sated, walk_empty, next_is_booked, one_asked}
 use Rattle.gpu_descriptor.proofs.request.OwnLayout.{appends_more, items_behind, long_more}
 use Rattle.gpu_descriptor.proofs.request.Passed.{passed}
@@ -61,6 +63,13 @@ invariant_of-self g c =
           omega arith);
       «open» = listed_now b _ _ last p at q number c.pop_back_if.new.listed.items c.pop_back_if.ensures.popped c.pop_back_if.ensures.stays;
       capacity = (let long = length-set b.pools.items c.in-Some.place q in let is = c.pop_back_if.ensures.capacity in let fits = b.capacity in omega arith);
+      full = λ off. (
+          let here = All-get_or Has b.pools.items c.in-Some.place p (inside b _ _ last) (b.full off) in
+          let is = ap (λ (p : DescriptorPool g.row.P.Denot). p.allocated) c.index_mut-pool.ensures.value in
+          let more = c.ask-asked.ensures.allocated in
+          let few = c.ask-asked.ensures.left in
+          All-set Has b.pools.items c.in-Some.place q (omega arith) (b.full off));
+      some = λ on. (let long = length-set b.pools.items c.in-Some.place q in let has = b.some on in omega arith);
     }
 
 pub loop-sink-smaller : goal.loop-sink-smaller
@@ -91,6 +100,7 @@ loop-sink-preserved g c =
     record {
       appends = appends_more inv.appends (key_of c.args.request.now.key) b.id p.number got.0 got.1 got.2 got.4;
       id_stays = inv.id_stays;
+      flag_stays = inv.flag_stays;
       numbers_stay = same g r c.ask-asked.new.pool c.in_ok-asked.ensures.number ∙ inv.numbers_stay;
       total = (let a = inv.total in let long = long_more inv.appends (key_of c.args.request.now.key) b.id p.number got.0 got.1 in let less = got.2 in let came = c.from.ensures in omega arith);
       walk = open_walk_more c.requires.booked inv.walk c.loop-sink-test.true _ _ c.in-Some.ensures.last p (at g r) c.ask-asked.new.pool _ refl refl

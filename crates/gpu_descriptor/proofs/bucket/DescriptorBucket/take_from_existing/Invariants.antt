@@ -10,6 +10,7 @@ invariant-loop-sink g l =
     record {
       appends : Appends g.D.DescriptorDevice.meaning l.fn.request.layout.now l.fn.request.count l.sink.left (g.K.SetPlaces.items l.fn.sink.sets) (g.K.SetPlaces.items l.sink.sets);
       id_stays : l.self.id ≡ l.fn.self.id;
+      flag_stays : l.self.may_have_empty ≡ l.fn.self.may_have_empty;
       numbers_stay : numbers_of l.self.pools.items ≡ numbers_of l.fn.self.pools.items;
       total : l.self.total ≡ l.fn.self.total + length came;
       walk : OpenWalk g.D.DescriptorDevice.meaning.pool_name (key_of l.fn.request.key) l.fn.request.count l.sink.left (items_of g.D.DescriptorDevice.meaning.set_name came)

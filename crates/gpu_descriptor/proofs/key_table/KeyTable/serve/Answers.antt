@@ -2,6 +2,7 @@ use Rattle.gpu_descriptor.proofs.Common.{ℕ, refl, sym, ap, ◌∙◌, subst, a
 use Rattle.gpu_descriptor.proofs.table.Rising.{ids_put}
 use Rattle.gpu_descriptor.proofs.table.RowAt.{IsAt, is_at, keys_at, present, put_same}
 use Rattle.gpu_descriptor.proofs.cleanup.KeyOrder.{keys_stay}
+use Rattle.gpu_descriptor.proofs.sums.Flags.{flags_stay}
 use Rattle.gpu_descriptor.proofs.sums.Loads.{total_present, pools_set}
 use Rattle.gpu_descriptor.proofs.request.InTable.{serves_present}
 use Rattle.gpu_descriptor.proofs.request.Passed.{passed}
@@ -41,7 +42,11 @@ returns-in-Some g c =
     }
 
 pub invariant_of-self : goal.invariant_of-self
-invariant_of-self g c = grind (arith, common_steps, ids_put, keys_at)
+invariant_of-self g c =
+    let at = there g (goal.at.invariant_of-self g c).After-index_mut-bucket in
+    record { rising = grind (arith, common_steps, ids_put); distinct = grind (arith, common_steps, keys_at); flagged = c.args.self.now.flagged ∙ sym (flags_stay c.args.self.now.buckets.entries c.in-Some.place at.key c.index_mut-bucket.result.now _ at.at refl) }
 
 pub invariant_of-self-in-Some : goal.invariant_of-self-in-Some
-invariant_of-self-in-Some g c = grind (arith, common_steps, ids_put, keys_at)
+invariant_of-self-in-Some g c =
+    let at = there g (goal.at.invariant_of-self-in-Some g c).After-index_mut-bucket in
+    record { rising = grind (arith, common_steps, ids_put); distinct = grind (arith, common_steps, keys_at); flagged = c.args.self.now.flagged ∙ sym (flags_stay c.args.self.now.buckets.entries c.in-Some.place at.key c.index_mut-bucket.result.now c.take.new.self at.at c.take.ensures.flag_stays) }

@@ -1,10 +1,11 @@
 use Rattle.gpu_descriptor.proofs.Common.{ℕ, List, lookup, BucketKey, DescriptorBucket, map-append, greatest_u64, ◌≡◌, ◌+◌, ◌≤◌, ◌++◌, ◌∷◌, [], Bool, None, inl, refl, sym, ap, ◌∙◌, subst, arith, rules, map, Bucket, key_eq, no_pools, next_number, key_of, is_of, rises, stored_ids, books_in, entry_of}
-use Rattle.gpu_descriptor.proofs.Common.{pools_load, numbers_of, row_of, IsUnserved, DescriptorPool, number_after}
+use Rattle.gpu_descriptor.proofs.Common.{pools_load, numbers_of, row_of, count_flagged, IsUnserved, DescriptorPool, number_after}
 use Rattle.gpu_descriptor.proofs.lists.Numbers.{next_push, rises_push}
 use Rattle.gpu_descriptor.proofs.table.RowAt.{lookup_same}
 use Rattle.indexmap.specs.IndexMap.{IndexMap, insert_entry}
 use Rattle.indexmap.proofs.CallerLemmas.{insert_entry-new}
 use Rattle.gpu_descriptor.proofs.cleanup.KeyOrder.{keys_put}
+use Rattle.gpu_descriptor.proofs.sums.Flags.{flags_push}
 use Rattle.gpu_descriptor.proofs.sums.Loads.{pools_end}
 use Rattle.gpu_descriptor.proofs.request.Passed.{passed}
 use Rattle.gpu_descriptor.proofs.request.InTable.{missing, serves_new}
@@ -75,4 +76,5 @@ invariant_of-self-in-Ok g c =
     record {
       rising = ap (λ (l : List ℕ). rises (l ++ (next + 1) ∷ [])) ids ∙ rises_push (stored_ids es ++ next ∷ []) (next + 1) c.args.self.now.rising (let last = next_push (stored_ids es) next in omega arith);
       distinct = distinct_stored _ (λ k l. search rules) c.insert.new.self.entries c.insert.ensures.unique;
+      flagged = c.args.self.now.flagged ∙ sym (ap count_flagged (put g (goal.at.invariant_of-self-in-Ok g c).In-Ok) ∙ flags_push es c.args.request.now.key c.take-ended.new.self c.take-ended.ensures.flag_stays);
     }
