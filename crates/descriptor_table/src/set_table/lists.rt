@@ -17,7 +17,8 @@ impl<T> SetTable<T> {
     /// A list by its number; an empty one if there is no such list.
     #[inline]
     pub(super) fn chain(&self, list: usize) -> Chain
-        ensures { result ≡ chain_at (chains_in self.now.lists.items) list }
+        ensures chain { result ≡ chain_at (chains_in self.now.lists.items) list }
+        ensures count { result.count ≡ count (is_in list) (slots_of self.now) }
     {
         match self.lists.get(list) {
             Some(head) => head.chain,

@@ -1,9 +1,8 @@
 use Rattle.std.proofs.lemmas.Grind.{common_steps}
-use Rattle.std.proofs.Common.{◌≡◌, ◌+◌, true, sym, subst, ap, ◌∙◌, arith}
+use Rattle.std.proofs.Common.{◌≡◌, ◌+◌, true, sym, subst, ◌∙◌, arith}
 use Rattle.descriptor_table.specs.Slots.{chain_at, chains_in, filled, nexts_in, slot_at, slots_in}
 use Rattle.descriptor_table.specs.Tables.{At, HasRoom, count, generations_of, is_usable, renewed, slots_of}
 use Rattle.descriptor_table.specs.declared.set_table.SetTable.{SetTable}
-use Rattle.descriptor_table.specs.declared.slot.Chain.{Chain}
 use Rattle.descriptor_table.proofs.Chains.{live_no_list}
 use Rattle.descriptor_table.proofs.Counts.{chain_count}
 use Rattle.descriptor_table.proofs.Growing.{count_grown, puts_last, room_grown}
@@ -14,10 +13,6 @@ use Rattle.descriptor_table.proofs.set_table.SetTable.put.Goals as goal
 -- the list of vacant slots counts them
 vacant : {T : Type 0} (s : SetTable T) → (chain_at (chains_in s.lists.items) 0).count ≡ count is_usable (slots_of s)
 vacant s = chain_count (slots_in s.slots) (nexts_in s.slots) (chains_in s.lists.items) s.sound.linked 0
-
--- if it is empty there is none
-none : {T : Type 0} (s : SetTable T) (c : Chain) → c ≡ chain_at (chains_in s.lists.items) 0 → c.count ≡ 0 → count is_usable (slots_of s) ≡ 0
-none s c is empty = sym (vacant s) ∙ ap (λ (h : Chain). h.count) (sym is) ∙ empty
 
 pub add_place-requires-clause-room : goal.add_place-requires-clause-room
 add_place-requires-clause-room g c = grind (arith, common_steps, vacant c.args.self.now)
@@ -35,7 +30,7 @@ returns-clause-puts g c =
     elim c.if-chain-eq0.branch [
       | then-chain-eq0 w ↦ (
         here.0,
-        puts_last c.args.self.now w.add_place.new.self (none c.args.self.now c.chain.result c.chain.ensures w.if-chain-eq0.true) w.add_place.ensures c.args.layout c.args.set p here.0
+        puts_last c.args.self.now w.add_place.new.self (sym c.chain.ensures.count ∙ w.if-chain-eq0.true) w.add_place.ensures c.args.layout c.args.set p here.0
             (subst (λ s. is_usable (slot_at (slots_of s) p) ≡ true) w.self-is c.fill.ensures.usable) (subst (λ s. At p (filled c.args.layout (generations_of s c.args.layout) c.args.set) (slots_of s) here.0) w.self-is here.1),
         grind (arith, common_steps),
       )
@@ -48,6 +43,6 @@ returns-clause-reserve g c = λ n room.
     let used = renewed c.args.used (slot_at here.0 (g.N.SetName.handle_of c.fill.result).place) in
     let less = room_less n _ _ used c.if-chain-eq0.self c.fill.new.self here.0 c.fill.ensures.usable here.1 here.2.slots (live_no_list used c.requires.live 0) c.fill.ensures.stays in
     elim c.if-chain-eq0.branch [
-      | then-chain-eq0 w ↦ less (subst (HasRoom (n + 1)) (sym w.self-is) (room_grown c.args.self.now w.add_place.new.self (none c.args.self.now c.chain.result c.chain.ensures w.if-chain-eq0.true) w.add_place.ensures n room))
+      | then-chain-eq0 w ↦ less (subst (HasRoom (n + 1)) (sym w.self-is) (room_grown c.args.self.now w.add_place.new.self (sym c.chain.ensures.count ∙ w.if-chain-eq0.true) w.add_place.ensures n room))
       | else-chain-eq0 w ↦ less (subst (HasRoom (n + 1)) (sym w.self-is) room)
     ]
