@@ -10,7 +10,7 @@ use crate::slot::Use;
 impl<T> SetTable<T> {
     ghost use Rattle.descriptor_table.specs.Giving.{is_of};
     ghost use Rattle.descriptor_table.specs.Sets.{find, is_held};
-    ghost use Rattle.descriptor_table.specs.Slots.{Slots, filled, frame_of, is_due, is_in, is_live, no_slot, slot_at};
+    ghost use Rattle.descriptor_table.specs.Slots.{Slots, filled, frame_of, is_in, is_live, no_slot, slot_at};
     ghost use Rattle.descriptor_table.specs.Tables.{At, Changes, GivesAny, HasPlaces, HasRoom, IsTaken, Puts};
     ghost use Rattle.descriptor_table.specs.Tables.{Renews, Stays, count, generations_of, is_usable, lists_of};
     ghost use Rattle.descriptor_table.specs.Tables.{settings_of, slots_of, used_for, vacated};
