@@ -1,58 +1,42 @@
 -- A layout that comes into a slot and has a handle, and one that leaves: for `LayoutRegistry::add` and `remove`.
 use Rattle.std.proofs.lemmas.Grind.{common_steps}
-use Rattle.std.proofs.Common.{◌≡◌, ◌≢◌, ℕ, ◌<◌, ◌⊎◌, true, false, is_some, List, [], ◌∷◌, set, Option, None, Some, IsSome, refl, sym, ap, ◌∙◌, arith, rules}
+use Rattle.std.proofs.Common.{◌≡◌, ◌≢◌, ℕ, ◌<◌, ◌⊎◌, true, false, List, [], ◌∷◌, set, Option, None, Some, IsSome, refl, sym, ap, ◌∙◌, arith, rules}
 use Rattle.std.proofs.lemmas.Option.{none-some}
 use Rattle.descriptor_table.specs.Sets.{AreHeldOnce, LoseNames, NameEach, is_held, sets_of}
 use Rattle.descriptor_table.specs.Slots.{Slot, is_live, slot_at}
-use Rattle.descriptor_table.specs.Tables.{Grows, Puts, Renews, current, place_at, renewed, vacated}
+use Rattle.descriptor_table.specs.Tables.{Puts, Renews, place_at, renewed, vacated}
 use Rattle.descriptor_table.specs.declared.handle.SetHandle.{SetHandle}
 use Rattle.descriptor_table.specs.declared.slot.Use.{Use}
 use Rattle.descriptor_table.specs.declared.slot.Use.TheVariants.{Held}
-use Rattle.descriptor_manager.specs.Own.{AreCounted}
 use Rattle.descriptor_table.proofs.Counting.{same_or}
 use Rattle.descriptor_table.proofs.Holding.{held_is}
 use Rattle.descriptor_table.proofs.Naming.{names_lost}
 use Rattle.descriptor_table.proofs.Listed.{other_slots, slot_set}
 use Rattle.descriptor_manager.proofs.Arriving.{same_clears}
-use Rattle.descriptor_manager.proofs.Growing.{grow_new}
 use Rattle.descriptor_manager.proofs.Handing.{new_one}
 use Rattle.descriptor_manager.proofs.Joining.{are_named}
 use Rattle.descriptor_manager.proofs.Owned.{same_some}
 
-module _ {T : Type 0} {number p layout : ℕ} {x : T} {u : Use} {handle : SetHandle} {old mid new : List (Slot T)} {generations : ℕ → ℕ} (puts : Puts generations layout x p old mid) (renews : Renews number p u handle mid new) where
-  slot_here : slot_at new p ≡ renewed u (slot_at mid p)
-  slot_here = ap (λ l. slot_at l p) renews.slots ∙ slot_set mid p (renewed u (slot_at mid p)) puts.within
-
+module _ {T : Type 0} {number p layout : ℕ} {x : T} {u : Use} {handle : SetHandle} {old mid new : List (Slot T)} (puts : Puts layout x p old mid) (renews : Renews number p u handle mid new) where
   -- its set is there
   pub added_here : (slot_at new p).set ≡ Some x
-  added_here = ap (λ (s : Slot T). s.set) slot_here ∙ ap (λ (s : Slot T). s.set) puts.here
+  added_here = ap (λ l. (slot_at l p).set) renews.slots ∙ ap (λ (s : Slot T). s.set) (slot_set mid p (renewed u (slot_at mid p)) puts.within) ∙ ap (λ (s : Slot T). s.set) puts.here
 
-  added_there : (n : ℕ) → n ≢ p → slot_at new n ≡ slot_at old n
-  added_there n ne = ap (λ l. slot_at l n) renews.slots ∙ other_slots mid p (renewed u (slot_at mid p)) n ne ∙ puts.others n ne
+  pub added_others : (n : ℕ) → n ≢ p → slot_at new n ≡ slot_at old n
+  added_others n ne = ap (λ l. slot_at l n) renews.slots ∙ other_slots mid p (renewed u (slot_at mid p)) n ne ∙ puts.others n ne
 
-module _ {T : Type 0} {number p : ℕ} {x : T} {handle : SetHandle} {old mid new : List (Slot T)} {generations : ℕ → ℕ} (puts : Puts generations 0 x p old mid) (renews : Renews number p Held handle mid new) where
+module _ {T : Type 0} {number p : ℕ} {x : T} {handle : SetHandle} {old mid new : List (Slot T)} (puts : Puts 0 x p old mid) (renews : Renews number p Held handle mid new) where
   -- the handle, and no other one, names something else
   pub added_names : NameEach (handle ∷ []) (sets_of number 0 false old) (sets_of number 0 false new)
-  added_names = are_named number (current generations 0) Held (handle ∷ []) old old new (λ q. same_clears (slot_at old q) (slot_at old q) refl) (new_one number p Held handle generations 0 x old mid new puts renews) 0 false refl
+  added_names = are_named number 0 Held (handle ∷ []) old old new (λ q. same_clears (slot_at old q) (slot_at old q) refl) (new_one number p Held handle 0 x old mid new puts renews) 0 false refl
 
   -- each layout that is there was there before, or is the new one
   pub added_only : (n : ℕ) (y : T) → (slot_at new n).set ≡ Some y → ((slot_at old n).set ≡ Some y) ⊎ (y ≡ x)
-  added_only n y is = grind (arith, common_steps, added_here puts renews, added_there puts renews n, same_or n p, same_some)
-
-  -- and is held, as those before
-  pub added_held : ((n : ℕ) → is_some (slot_at old n).set ≡ true → (slot_at old n).used ≡ Held) → (n : ℕ) → is_some (slot_at new n).set ≡ true → (slot_at new n).used ≡ Held
-  added_held held n some = search (rules, same_or, slot_here puts renews, added_there puts renews)
-
-  -- its slot gave one handle more
-  pub added_counted : (removed : ℕ → ℕ) → AreCounted removed old → AreCounted removed new
-  added_counted removed counted n = grind (arith, common_steps, same_or n p, slot_here puts renews, added_there puts renews n, puts.empty, puts.here, puts.next, counted n)
+  added_only n y is = grind (arith, common_steps, added_here puts renews, added_others puts renews n, same_or n p, same_some)
 
   -- each layout that was there stays
   pub added_stay : (n : ℕ) (y : T) → (slot_at old n).set ≡ Some y → (slot_at new n).set ≡ Some y
-  added_stay n y is = grind (arith, common_steps, same_or n p, added_there puts renews n, puts.empty, none-some)
-
-  pub added_grows : Grows old new
-  added_grows = grow_new number generations 0 p x Held handle old mid new (λ s. refl) puts renews
+  added_stay n y is = grind (arith, common_steps, same_or n p, added_others puts renews n, puts.empty, none-some)
 
 -- a layout that leaves its slot
 module _ {T : Type 0} (number : ℕ) (h : SetHandle) (old new : List (Slot T)) where
@@ -68,10 +52,6 @@ module _ {T : Type 0} (number : ℕ) (h : SetHandle) (old new : List (Slot T)) w
     where
       here : (i : ℕ) → i < 1 → slot_at new (place_at (h ∷ []) i) ≡ vacated (slot_at old (place_at (h ∷ []) i))
       here x0 lt = grind (arith, common_steps)
-
-  -- each layout that is left is held, as before
-  pub left_held : (r : Option T) → (IsSome r → is_held number old h ≡ true) → (IsSome r → new ≡ set old h.place (vacated (slot_at old h.place))) → (r ≡ None → new ≡ old) → ((n : ℕ) → is_some (slot_at old n).set ≡ true → (slot_at old n).used ≡ Held) → (n : ℕ) → is_some (slot_at new n).set ≡ true → (slot_at new n).used ≡ Held
-  left_held x0 held made none was n some = grind (arith, common_steps, held_is, other_slots, same_or, slot_set)
 
   -- each layout that is left was there before
   pub left_only : (r : Option T) → (IsSome r → is_held number old h ≡ true) → (IsSome r → new ≡ set old h.place (vacated (slot_at old h.place))) → (r ≡ None → new ≡ old) → (n : ℕ) (y : T) → (slot_at new n).set ≡ Some y → (slot_at old n).set ≡ Some y

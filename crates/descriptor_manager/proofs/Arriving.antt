@@ -4,8 +4,8 @@ use Rattle.std.proofs.Common.{◌≡◌, ℕ, ◌⊎◌, ne_eqb, Bool, true, if�
 use Rattle.std.proofs.lemmas.Option.{none-some}
 use Rattle.gpu_descriptor_types.specs.declared.device.DescriptorDevice.{Ghosts}
 use Rattle.gpu_descriptor.specs.declared.set.DescriptorSet.{DescriptorSet}
-use Rattle.descriptor_table.specs.Slots.{Slot, slot_at, in_list, waits_for}
-use Rattle.descriptor_table.specs.Tables.{aged, came_under, count, is_kept, vacated, is_held_use}
+use Rattle.descriptor_table.specs.Slots.{Slot, count, slot_at, in_list, waits_for}
+use Rattle.descriptor_table.specs.Tables.{aged, is_kept, vacated, is_held_use}
 use Rattle.descriptor_table.specs.declared.slot.Use.TheVariants.{Vacant}
 use Rattle.descriptor_table.specs.declared.slot.Use.{Use}
 use Rattle.descriptor_table.proofs.Counts.{none_count}
@@ -15,7 +15,7 @@ use Rattle.descriptor_manager.specs.declared.store.Store.{Store}
 -- a set that was kept may be gone, and any other is there
 pub record Clears {T : Type 0} (o n : Slot T) : Type 0 where
   pub generation : n.generation ≡ o.generation
-  pub layout : came_under n ≡ came_under o
+  pub layout : n.layout ≡ o.layout
   pub is : ((n.used ≡ o.used) × (n.set ≡ o.set)) ⊎ ((is_kept o ≡ true) × (n.used ≡ Vacant) × (n.set ≡ None))
 
 module _ {T : Type 0} where
@@ -35,7 +35,7 @@ module _ {T : Type 0} where
 
 -- a slot's set was there under the same layout, or passes the test. If the slot was placed, it is
 pub record Arrives {T : Type 0} (comes : ℕ → T → Type 0) (o n : Slot T) : Type 0 where
-  pub set : (x : T) → n.set ≡ Some x → ((o.set ≡ Some x) × (came_under n ≡ came_under o)) ⊎ comes n.layout x
+  pub set : (x : T) → n.set ≡ Some x → ((o.set ≡ Some x) × (n.layout ≡ o.layout)) ⊎ comes n.layout x
   pub placed : is_placed o ≡ true → is_placed n ≡ true
 
 module _ {T : Type 0} where

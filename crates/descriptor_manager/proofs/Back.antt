@@ -4,12 +4,12 @@ use Rattle.std.proofs.lemmas.Grind.{common_steps}
 use Rattle.std.proofs.Common.{◌≡◌, ℕ, ◌+◌, ◌≤◌, ◌&&◌, nat_lt, ne_eqb, Bool, true, false, List, is_some, inl, inr, ap, arith, rules, if◌then◌else◌, refl, sym, ◌∙◌, ◌⊎◌, ◌||◌, not, Option, None}
 use Rattle.std.proofs.lemmas.Bool.{true≢false}
 use Rattle.descriptor_table.specs.Sets.{sets_in}
-use Rattle.descriptor_table.specs.Slots.{Slot, goes, is_in, slot_at, in_list, waits, waits_for}
-use Rattle.descriptor_table.specs.Tables.{IsBack, Becomes, MayBecome, Turns, count, is_kept, used_for, vacated, aged, holds, is_held_use}
+use Rattle.descriptor_table.specs.Slots.{Slot, count, goes, is_in, is_kept_of, slot_at, in_list, waits, waits_for}
+use Rattle.descriptor_table.specs.Tables.{IsBack, Becomes, MayBecome, Turns, is_kept, used_for, vacated, aged, holds, is_held_use}
 use Rattle.descriptor_table.specs.declared.slot.Use.TheVariants.{Kept, Going}
 use Rattle.descriptor_table.specs.declared.slot.Use.{Use}
 use Rattle.descriptor_table.proofs.Chains.{lists_apart}
-use Rattle.descriptor_table.proofs.Leaving.{same_sets}
+use Rattle.descriptor_table.proofs.Leaving.{group_out, same_sets}
 use Rattle.descriptor_table.proofs.Renewing.{kept_full}
 use Rattle.descriptor_table.proofs.Turning.{count_same, going_out}
 use Rattle.descriptor_table.proofs.Counts.{count_none}
@@ -23,8 +23,8 @@ module _ {T : Type 0} where
   turned_sets test becomes old new t same = search (rules, same_sets)
 
   -- sets that settle, wait or go are in their slots still
-  pub settled_sets : (test : Slot T → Bool) (generations : ℕ → ℕ) (max : ℕ) (old new : List (Slot T)) → Turns test (IsBack (used_for Going) generations max) old new → sets_in new ≡ sets_in old
-  settled_sets test generations max old new t = turned_sets test (IsBack (used_for Going) generations max) old new t (search rules)
+  pub settled_sets : (test : Slot T → Bool) (removed : ℕ → Bool) (max : ℕ) (old new : List (Slot T)) → Turns test (IsBack (used_for Going) removed max) old new → sets_in new ≡ sets_in old
+  settled_sets test removed max old new t = turned_sets test (IsBack (used_for Going) removed max) old new t (search rules)
 
   pub leaving_sets : (test : Slot T → Bool) (old new : List (Slot T)) → Turns test (Becomes (used_for Going)) old new → sets_in new ≡ sets_in old
   leaving_sets test old new t = turned_sets test (Becomes (used_for Going)) old new t (λ o n going. ap (λ (s : Slot T). s.set) going)
@@ -37,9 +37,9 @@ module _ {T : Type 0} where
   pub kept_stays : (s : Slot T) → goes (used_for Kept s) ≡ false
   kept_stays s = ap (λ b. b && (nat_lt s.generation 4294967295 && is_some s.set)) (ne_eqb 1 (s.layout + 2) (λ e. omega arith))
 
-  module _ (test : Slot T → Bool) (generations : ℕ → ℕ) (max : ℕ) (old mid new : List (Slot T)) (full : (s : Slot T) → test s ≡ true → is_some s.set ≡ true) where
+  module _ (test : Slot T → Bool) (removed : ℕ → Bool) (max : ℕ) (old mid new : List (Slot T)) (full : (s : Slot T) → test s ≡ true → is_some s.set ≡ true) where
     -- sets settled, and those that went were returned
-    pub came_back : ((p : ℕ) → goes (slot_at old p) ≡ false) → Turns test (IsBack (used_for Going) generations max) old mid → Turns goes (Becomes vacated) mid new → Turns test (IsBack vacated generations max) old new
+    pub came_back : ((p : ℕ) → goes (slot_at old p) ≡ false) → Turns test (IsBack (used_for Going) removed max) old mid → Turns goes (Becomes vacated) mid new → Turns test (IsBack vacated removed max) old new
     came_back none settles gives = search (rules, given_kept, kept_stays)
 
   -- kept sets that went were returned
@@ -47,6 +47,10 @@ module _ {T : Type 0} where
   left old mid new none trims gives = search (rules, kept_full)
 
 module _ {T : Type 0} where
+  -- no set of a layout is kept once its kept ones left their slots
+  pub kept_out : (layout : ℕ) (old new : List (Slot T)) → Turns (is_kept_of layout) (Becomes vacated) old new → (p : ℕ) → is_kept_of layout (slot_at new p) ≡ false
+  kept_out layout old new turns p = search (rules, group_out)
+
   pub aged_sets : (old new : List (Slot T)) → Turns (λ s. true) (Becomes aged) old new → sets_in new ≡ sets_in old
   aged_sets old new a = turned_sets (λ s. true) (Becomes aged) old new a (λ o n e. ap (λ (s : Slot T). s.set) e)
 

@@ -4,8 +4,7 @@ use Rattle.std.proofs.Common.{◌≡◌, ℕ, ◌+◌, ◌-◌, ◌<◌, List, l
 use Rattle.std.proofs.lemmas.Bool.{true≢false}
 use Rattle.gpu_descriptor_types.specs.declared.device.DescriptorDevice.{Ghosts}
 use Rattle.gpu_descriptor.specs.Caller.Sets.{AreOfLayout}
-use Rattle.descriptor_table.specs.Slots.{Slot, is_kept_of, slot_at}
-use Rattle.descriptor_table.specs.Tables.{count}
+use Rattle.descriptor_table.specs.Slots.{Slot, count, is_kept_of, slot_at}
 use Rattle.descriptor_table.proofs.Counts.{count_none, none_count}
 use Rattle.descriptor_manager.specs.Stores.{AreCleaned, Asks, AsksAtLast, kept_of, slots_in}
 use Rattle.descriptor_manager.specs.declared.store.Store.{Store}

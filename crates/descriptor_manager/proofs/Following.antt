@@ -42,8 +42,8 @@ module _ {T : Type 0} where
     pub follows_then : (o m n : Slot T) → Follows o m → Follows m n → Follows o n
     follows_then o m n one two = grind (arith, common_steps)
 
-    pub follows_back : (generations : ℕ → ℕ) (max : ℕ) (new : List (Slot T)) (o n : Slot T) → IsBack vacated generations max new o n → Follows o n
-    follows_back generations max new o n x5 = grind (arith, common_steps)
+    pub follows_back : (removed : ℕ → Bool) (max : ℕ) (new : List (Slot T)) (o n : Slot T) → IsBack vacated removed max new o n → Follows o n
+    follows_back removed max new o n x5 = grind (arith, common_steps)
 
     pub follows_left : (new : List (Slot T)) (o n : Slot T) → (MayBecome vacated) new o n → Follows o n
     follows_left new o n x3 = grind (arith, common_steps)

@@ -37,8 +37,8 @@ module _ {S : Type 0} (name : S → ℕ) where
   counts t (x ∷ l) = count_parts name (x ∷ []) l t ∙ ap (λ n. count_of t (item_of name x ∷ []) + n) (counts t l)
 
   -- a set came into a slot that had none
-  pub put_count : (generations : ℕ → ℕ) (layout p : ℕ) (x : DescriptorSet S) (old new : List (Slot (DescriptorSet S))) → Puts generations layout x p old new → (t : Item) → count_of t (items_of name (sets_in new)) ≡ count_of t (items_of name (sets_in old)) + count_of t (items_of name (x ∷ []))
-  put_count generations layout p x old new puts t = omega (arith, put_weigh (weight t) generations layout p x old new puts, counts t (sets_in old), counts t (sets_in new), counts t (x ∷ []))
+  pub put_count : (layout p : ℕ) (x : DescriptorSet S) (old new : List (Slot (DescriptorSet S))) → Puts layout x p old new → (t : Item) → count_of t (items_of name (sets_in new)) ≡ count_of t (items_of name (sets_in old)) + count_of t (items_of name (x ∷ []))
+  put_count layout p x old new puts t = omega (arith, put_weigh (weight t) layout p x old new puts, counts t (sets_in old), counts t (sets_in new), counts t (x ∷ []))
 
 module _ {L P S D : Type 0} {d : Ghosts D L P S} (s : Store L P S D d) {l : List (DescriptorSet S)} (same : l ≡ sets_in (slots_in s)) where
   -- with the sets that a store has its table is exact
@@ -49,8 +49,8 @@ module _ {L P S D : Type 0} {d : Ghosts D L P S} (s : Store L P S D d) {l : List
   accounted_as = (let count = ap length same in let is = s.accounted in omega arith)
 
 module _ {T : Type 0} where
-  pub put_many : (generations : ℕ → ℕ) (layout p : ℕ) (x : T) (old new : List (Slot T)) → Puts generations layout x p old new → length (sets_in new) ≡ length (sets_in old) + 1
-  put_many generations layout p x old new puts = omega (arith, put_weigh (λ x. 1) generations layout p x old new puts, tally_length (sets_in old), tally_length (sets_in new))
+  pub put_many : (layout p : ℕ) (x : T) (old new : List (Slot T)) → Puts layout x p old new → length (sets_in new) ≡ length (sets_in old) + 1
+  put_many layout p x old new puts = omega (arith, put_weigh (λ x. 1) layout p x old new puts, tally_length (sets_in old), tally_length (sets_in new))
 
   -- a slot changed, and its set is there
   pub set_sets : (l : List (Slot T)) (p : ℕ) (s : Slot T) → s.set ≡ (slot_at l p).set → sets_in (set l p s) ≡ sets_in l

@@ -1,33 +1,30 @@
 -- There are more slots only if each has a set, or had its last generation (`Grows`): for the calls of `Store` that give handles.
 use Rattle.std.proofs.lemmas.Grind.{common_steps}
-use Rattle.std.proofs.Common.{◌≡◌, ℕ, true, false, List, length, inl, inr, ap, ◌∙◌, arith, rules}
-use Rattle.std.proofs.lemmas.List.{length-set}
+use Rattle.std.proofs.Common.{◌≡◌, ◌⊎◌, ℕ, true, false, List, length, inl, inr, ap, ◌∙◌, arith, rules}
 use Rattle.gpu_descriptor_types.specs.declared.device.DescriptorDevice.{Ghosts}
 use Rattle.gpu_descriptor.specs.declared.errors.AllocationError.{AllocationError}
 use Rattle.descriptor_table.specs.Slots.{Slot, frame_of, is_live, slot_at}
-use Rattle.descriptor_table.specs.Tables.{Grows, Puts, Renews, is_usable, renewed}
+use Rattle.descriptor_table.specs.Tables.{AreAllUsed, Grows, Puts, Renews, is_usable, renewed}
 use Rattle.descriptor_table.specs.declared.handle.SetHandle.{SetHandle}
 use Rattle.descriptor_table.specs.declared.slot.Use.{Use}
 use Rattle.descriptor_table.proofs.Chains.{live_no_list}
+use Rattle.descriptor_table.proofs.Counting.{same_or}
 use Rattle.descriptor_table.proofs.Holding.{named_or}
-use Rattle.descriptor_table.proofs.Listed.{slot_set}
+use Rattle.descriptor_table.proofs.Listed.{other_slots, slot_set}
 use Rattle.descriptor_manager.specs.Stores.{HoldEach, IsCleared, IsRefusedAtLast, slots_in}
 use Rattle.descriptor_manager.specs.declared.store.Store.{Store}
 use Rattle.descriptor_manager.proofs.Handing.{came_used, unmet_slots}
 
 module _ {T : Type 0} where
-  renewed_long : (number p : ℕ) (u : Use) (handle : SetHandle) (old new : List (Slot T)) → Renews number p u handle old new → length new ≡ length old
-  renewed_long number p u handle old new r = ap length r.slots ∙ length-set old p (renewed u (slot_at old p))
-
   -- a new set gets a handle
-  pub grow_new : (number : ℕ) (generations : ℕ → ℕ) (layout p : ℕ) (x : T) (u : Use) (handle : SetHandle) (old mid new : List (Slot T)) → ((s : Slot T) → is_usable (renewed u s) ≡ false) → Puts generations layout x p old mid → Renews number p u handle mid new → Grows old new
-  grow_new number generations layout p x u handle old mid new used puts r = elim puts.grows [
-    | inl same ↦ inl (renewed_long number p u handle mid new r ∙ same)
-    | inr more ↦ grind (arith, common_steps, slot_set mid p (renewed u (slot_at mid p)) puts.within)
+  pub grow_new : (number layout p : ℕ) (x : T) (u : Use) (handle : SetHandle) (old mid new : List (Slot T)) → ((s : Slot T) → is_usable (renewed u s) ≡ false) → Puts layout x p old mid → Renews number p u handle mid new → (length new ≡ length old) ⊎ AreAllUsed old → Grows old new
+  grow_new number layout p x u handle old mid new used puts r grows = elim grows [
+    | inl same ↦ inl same
+    | inr all ↦ inr (λ q. grind (arith, common_steps, same_or q p, slot_set mid p (renewed u (slot_at mid p)) puts.within, other_slots mid p (renewed u (slot_at mid p)) q, puts.others q, all q))
   ]
 
   -- one step after others
-  pub grow_more : (number : ℕ) (layout : ℕ × ℕ) (u : Use) (handles : List SetHandle) (old mid new : List (Slot T)) → is_live (frame_of u) true u ≡ true → Grows old mid → Grows mid new → HoldEach number layout u handles mid new → Grows old new
+  pub grow_more : (number : ℕ) (layout : ℕ) (u : Use) (handles : List SetHandle) (old mid new : List (Slot T)) → is_live (frame_of u) true u ≡ true → Grows old mid → Grows mid new → HoldEach number layout u handles mid new → Grows old new
   grow_more number layout u handles old mid new live first last holding = search (rules, came_used, live_no_list, named_or)
 
   -- a step that left as many slots, before others

@@ -5,8 +5,8 @@ use Rattle.std.proofs.Common.{◌≡◌, ◌≢◌, ℕ, ◌+◌, ◌<◌, ◌�
 use Rattle.gpu_descriptor_types.specs.declared.device.DescriptorDevice.{Ghosts}
 use Rattle.gpu_descriptor.specs.declared.set.DescriptorSet.{DescriptorSet}
 use Rattle.gpu_descriptor.specs.declared.errors.AllocationError.{AllocationError}
-use Rattle.descriptor_table.specs.Slots.{Slot, frame_of, is_kept_of, is_live, slot_at}
-use Rattle.descriptor_table.specs.Tables.{Puts, Renews, came_under, count, current, is_usable, renewed}
+use Rattle.descriptor_table.specs.Slots.{Slot, count, frame_of, is_kept_of, is_live, slot_at}
+use Rattle.descriptor_table.specs.Tables.{Puts, Renews, is_usable, renewed}
 use Rattle.descriptor_table.specs.declared.handle.SetHandle.{SetHandle}
 use Rattle.descriptor_table.specs.declared.slot.Use.{Use}
 use Rattle.descriptor_table.proofs.Chains.{lists_apart, live_no_list}
@@ -22,14 +22,14 @@ use Rattle.descriptor_manager.proofs.Naming.{free_kept, free_none, is_free, kept
 pub some_of : {T : Type 0} (o : Option T) → is_some o ≡ true → (x : T) × (o ≡ Some x)
 some_of x0 e = grind (arith, common_steps)
 
-module _ {T : Type 0} (under : ℕ × ℕ) (u : Use) (o n : Slot T) (came : ComesInto under u o n) where
+module _ {T : Type 0} (layout : ℕ) (u : Use) (o n : Slot T) (came : ComesInto layout u o n) where
   pub came_free : is_free o ≡ true
   came_free = search (rules, free_kept, free_none, kept_as)
 
   pub came_next : n.generation ≡ o.generation + 1
   came_next = search rules
 
-  pub came_layout : came_under n ≡ under
+  pub came_layout : n.layout ≡ layout
   came_layout = search rules
 
   pub came_used : n.used ≡ u
@@ -39,22 +39,22 @@ module _ {T : Type 0} (under : ℕ × ℕ) (u : Use) (o n : Slot T) (came : Come
   came_full = search (rules, kept_is)
 
 module _ {T : Type 0} (number p : ℕ) (u : Use) (handle : SetHandle) where
-  one : (under : ℕ × ℕ) (old new : List (Slot T)) → handle ≡ next_of number p (slot_at old p) → ComesInto under u (slot_at old p) (slot_at new p) → ((q : ℕ) → q ≢ p → slot_at new q ≡ slot_at old q) → HoldEach number under u (handle ∷ []) old new
-  one under old new is came others = search (rules, next_of)
+  one : (layout : ℕ) (old new : List (Slot T)) → handle ≡ next_of number p (slot_at old p) → ComesInto layout u (slot_at old p) (slot_at new p) → ((q : ℕ) → q ≢ p → slot_at new q ≡ slot_at old q) → HoldEach number layout u (handle ∷ []) old new
+  one layout old new is came others = search (rules, next_of)
 
   -- a kept set of the layout came to the use
-  pub kept_one : (under : ℕ × ℕ) (old new : List (Slot T)) → is_kept_of under.0 (slot_at old p) ≡ true → came_under (slot_at old p) ≡ under → p < length old → Renews number p u handle old new → HoldEach number under u (handle ∷ []) old new
-  kept_one under old new was layout within renews = search (rules, one, other_slots, slot_set)
+  pub kept_one : (layout : ℕ) (old new : List (Slot T)) → is_kept_of layout (slot_at old p) ≡ true → p < length old → Renews number p u handle old new → HoldEach number layout u (handle ∷ []) old new
+  kept_one layout old new was within renews = search (rules, one, other_slots, slot_set)
 
   -- a set of the layout that was put into a slot did
-  pub new_one : (generations : ℕ → ℕ) (layout : ℕ) (x : T) (old put new : List (Slot T)) → Puts generations layout x p old put → Renews number p u handle put new → HoldEach number (current generations layout) u (handle ∷ []) old new
-  new_one generations layout x old put new puts renews = search (rules, next_of, one, other_slots, slot_set)
+  pub new_one : (layout : ℕ) (x : T) (old put new : List (Slot T)) → Puts layout x p old put → Renews number p u handle put new → HoldEach number layout u (handle ∷ []) old new
+  new_one layout x old put new puts renews = search (rules, next_of, one, other_slots, slot_set)
 
   -- it is the only set that comes
   pub new_comes :
-      (comes : ℕ → T → Type 0) (generations : ℕ → ℕ) (layout : ℕ) (x : T) (old put new : List (Slot T)) → Puts generations layout x p old put → Renews number p u handle put new → comes layout x
-      → (q : ℕ) (y : T) → (slot_at new q).set ≡ Some y → (((slot_at old q).set ≡ Some y) × (came_under (slot_at new q) ≡ came_under (slot_at old q))) ⊎ comes (slot_at new q).layout y
-  new_comes comes generations layout x old put new puts renews came q y e = grind (arith, common_steps, same_or q p, slot_set put p (renewed u (slot_at put p)) puts.within)
+      (comes : ℕ → T → Type 0) (layout : ℕ) (x : T) (old put new : List (Slot T)) → Puts layout x p old put → Renews number p u handle put new → comes layout x
+      → (q : ℕ) (y : T) → (slot_at new q).set ≡ Some y → (((slot_at old q).set ≡ Some y) × ((slot_at new q).layout ≡ (slot_at old q).layout)) ⊎ comes (slot_at new q).layout y
+  new_comes comes layout x old put new puts renews came q y e = grind (arith, common_steps, same_or q p, slot_set put p (renewed u (slot_at put p)) puts.within)
 
   module _ (layout : ℕ) (old new : List (Slot T)) (was : is_kept_of layout (slot_at old p) ≡ true) (within : p < length old) (live : is_live (frame_of u) true u ≡ true) (renews : Renews number p u handle old new) where
     -- one kept set fewer

@@ -10,11 +10,11 @@ use Rattle.gpu_descriptor_types.specs.declared.device.DescriptorDevice.{Ghosts}
 use Rattle.gpu_descriptor.specs.declared.set.DescriptorSet.{DescriptorSet}
 use Rattle.descriptor_table.specs.Slots.{Slot, frame_of, is_kept_of, is_live, slot_at, waits_for}
 use Rattle.descriptor_table.specs.Sets.{NameEach, find, is_given, sets_of}
-use Rattle.descriptor_table.specs.Tables.{Settings, came_under, current, is_held_use, place_at}
+use Rattle.descriptor_table.specs.Tables.{HasLayout, Settings, is_held_use, place_at}
 use Rattle.descriptor_table.specs.declared.handle.SetHandle.{SetHandle}
 use Rattle.descriptor_table.specs.declared.slot.Use.{Use}
 use Rattle.descriptor_table.proofs.Holding.{named_or}
-use Rattle.descriptor_manager.specs.Stores.{ComesInto, HoldEach, KeepsStore, NoneComes, SetsCome, current_in, slots_in}
+use Rattle.descriptor_manager.specs.Stores.{ComesInto, HoldEach, KeepsStore, NoneComes, SetsCome, slots_in}
 use Rattle.descriptor_manager.specs.declared.store.Store.{Store}
 use Rattle.descriptor_manager.proofs.Arriving.{Arrives, Clears, arrives_then, clears_arrives, same_arrives, used_placed}
 use Rattle.descriptor_manager.proofs.Handing.{came_free, came_full, came_next, came_used, some_of}
@@ -29,14 +29,10 @@ module _ {T : Type 0} where
   used_not_free : (u : Use) (s : Slot T) → is_live (frame_of u) true u ≡ true → s.used ≡ u → is_some s.set ≡ true → is_free s ≡ true → ⊥
   used_not_free u s live is full free = search (rules, false≢true, free_is)
 
-  pub hold_none : (number : ℕ) (layout : ℕ × ℕ) (u : Use) (old : List (Slot T)) → HoldEach number layout u [] old old
+  pub hold_none : (number : ℕ) (layout : ℕ) (u : Use) (old : List (Slot T)) → HoldEach number layout u [] old old
   hold_none number layout u old = search rules
 
-  -- a set with a handle is there
-  pub held_full : (number : ℕ) (layout : ℕ × ℕ) (u : Use) (handle : SetHandle) (old new : List (Slot T)) → HoldEach number layout u (handle ∷ []) old new → is_some (slot_at new handle.place).set ≡ true
-  held_full number layout u handle old new x = came_full layout u (slot_at old handle.place) (slot_at new handle.place) (x.comes 0 (omega arith))
-
-  module _ (number : ℕ) (layout : ℕ × ℕ) (u : Use) (live : is_live (frame_of u) true u ≡ true) (a b : List SetHandle) (old mid new : List (Slot T)) (x : HoldEach number layout u a old mid) (y : HoldEach number layout u b mid new) where
+  module _ (number : ℕ) (layout : ℕ) (u : Use) (live : is_live (frame_of u) true u ≡ true) (a b : List SetHandle) (old mid new : List (Slot T)) (x : HoldEach number layout u a old mid) (y : HoldEach number layout u b mid new) where
     -- no handle of `b` has a place of `a`: the set there is in use by then, and so it is not free
     apart_places : (i k : ℕ) → i < length a → k < length b → place_at a i ≢ place_at b k
     apart_places i k lt less e = search (rules, came_free, came_full, came_used, is_free, used_not_free)
@@ -69,19 +65,19 @@ module _ {T : Type 0} where
 
   -- the sets of the given handles were kept, and so was that of one more
   pub were_kept :
-      (number : ℕ) (under : ℕ × ℕ) (u : Use) (layout n : ℕ) (now : List SetHandle) (handle : SetHandle) (old mid : List (Slot T)) → is_live (frame_of u) true u ≡ true → n < length now
-      → HoldEach number under u (take n now) old mid → ((i : ℕ) → i < n → is_kept_of layout (slot_at old (place_at now i)) ≡ true)
+      (number : ℕ) (u : Use) (layout n : ℕ) (now : List SetHandle) (handle : SetHandle) (old mid : List (Slot T)) → is_live (frame_of u) true u ≡ true → n < length now
+      → HoldEach number layout u (take n now) old mid → ((i : ℕ) → i < n → is_kept_of layout (slot_at old (place_at now i)) ≡ true)
       → is_kept_of layout (slot_at mid handle.place) ≡ true
       → (i : ℕ) → i < n + 1 → is_kept_of layout (slot_at old (place_at (set now n handle) i)) ≡ true
-  were_kept number under u layout n now handle old mid live within x each last i lt = elim (cases_lt i n) [
+  were_kept number u layout n now handle old mid live within x each last i lt = elim (cases_lt i n) [
     | inl less ↦ search rules
     | inr le ↦ let same : i ≡ n = omega arith in search rules
   ]
 
   -- kept sets may have left their slots before the first set came
-  module _ (number : ℕ) (layout : ℕ × ℕ) (u : Use) (handles : List SetHandle) (old mid new : List (Slot T)) (clear : (q : ℕ) → Clears (slot_at old q) (slot_at mid q)) (x : HoldEach number layout u handles mid new) where
+  module _ (number : ℕ) (layout : ℕ) (u : Use) (handles : List SetHandle) (old mid new : List (Slot T)) (clear : (q : ℕ) → Clears (slot_at old q) (slot_at mid q)) (x : HoldEach number layout u handles mid new) where
     -- each set was there, or came
-    pub holds_arrives : is_live (frame_of u) true u ≡ true → (comes : ℕ → T → Type 0) → ((p : ℕ) (t : T) → (slot_at new p).set ≡ Some t → (((slot_at mid p).set ≡ Some t) × (came_under (slot_at new p) ≡ came_under (slot_at mid p))) ⊎ comes (slot_at new p).layout t) → (q : ℕ) → Arrives comes (slot_at old q) (slot_at new q)
+    pub holds_arrives : is_live (frame_of u) true u ≡ true → (comes : ℕ → T → Type 0) → ((p : ℕ) (t : T) → (slot_at new p).set ≡ Some t → (((slot_at mid p).set ≡ Some t) × ((slot_at new p).layout ≡ (slot_at mid p).layout)) ⊎ comes (slot_at new p).layout t) → (q : ℕ) → Arrives comes (slot_at old q) (slot_at new q)
     holds_arrives live comes sets q = arrives_then comes (slot_at old q) (slot_at mid q) (slot_at new q) (clears_arrives comes (slot_at old q) (slot_at mid q) (clear q)) (elim (named_or (length handles) (place_at handles) q) [
       | inl found ↦
           let came = subst (λ q. ComesInto layout u (slot_at mid q) (slot_at new q)) found.2 (x.comes found.0 found.1) in
@@ -138,28 +134,31 @@ module _ {L P S D : Type 0} {d : Ghosts D L P S} where
   pub stays_then : (old mid new : Store L P S D d) → KeepsStore old mid → KeepsStore mid new → KeepsStore old new
   stays_then old mid new a b = search rules
 
+  pub layout_stays : (layout : ℕ) (old new : Store L P S D d) → KeepsStore old new → HasLayout layout old.table → HasLayout layout new.table
+  layout_stays layout old new stays has = record { within = subst (λ n. layout < n) (sym (ap (λ (s : Settings). s.layouts) stays.settings)) has.within; there = ap (λ (s : Settings). s.removed layout) stays.settings ∙ has.there }
+
   module _ (layout : ℕ) (u : Use) where
-    -- the number and the layouts are as they were
-    pub held_stays : (handles : List SetHandle) (mid new : List (Slot (DescriptorSet S))) (old now : Store L P S D d) → KeepsStore old now → HoldEach now.table.number (current_in layout now) u handles mid new → HoldEach old.table.number (current_in layout old) u handles mid new
-    held_stays handles mid new old now stays holds = subst (λ generations. HoldEach old.table.number (current generations layout) u handles mid new) (ap (λ (s : Settings). s.generations) stays.settings) (subst (λ number. HoldEach number (current_in layout now) u handles mid new) (ap (λ (s : Settings). s.number) stays.settings) holds)
+    -- the number is as it was
+    pub held_stays : (handles : List SetHandle) (mid new : List (Slot (DescriptorSet S))) (old now : Store L P S D d) → KeepsStore old now → HoldEach now.table.number layout u handles mid new → HoldEach old.table.number layout u handles mid new
+    held_stays handles mid new old now stays holds = subst (λ number. HoldEach number layout u handles mid new) (ap (λ (s : Settings). s.number) stays.settings) holds
 
     -- none is given yet
-    pub held_start : (old : Store L P S D d) → HoldEach old.table.number (current_in layout old) u [] (slots_in old) (slots_in old)
-    held_start old = hold_none old.table.number (current_in layout old) u (slots_in old)
+    pub held_start : (old : Store L P S D d) → HoldEach old.table.number layout u [] (slots_in old) (slots_in old)
+    held_start old = hold_none old.table.number layout u (slots_in old)
 
     module _ (live : is_live (frame_of u) true u ≡ true) where
       -- one handle more is given
       pub held_next :
           (n : ℕ) (now : List SetHandle) (handle : SetHandle) (old mid new : Store L P S D d) → KeepsStore old mid → n < length now
-          → HoldEach old.table.number (current_in layout old) u (take n now) (slots_in old) (slots_in mid)
-          → HoldEach mid.table.number (current_in layout mid) u (handle ∷ []) (slots_in mid) (slots_in new)
-          → HoldEach old.table.number (current_in layout old) u (take (n + 1) (set now n handle)) (slots_in old) (slots_in new)
+          → HoldEach old.table.number layout u (take n now) (slots_in old) (slots_in mid)
+          → HoldEach mid.table.number layout u (handle ∷ []) (slots_in mid) (slots_in new)
+          → HoldEach old.table.number layout u (take (n + 1) (set now n handle)) (slots_in old) (slots_in new)
       held_next n now handle old mid new stays within a b = search (rules, add-one, held_stays, joined, take-suc-set)
 
       -- kept sets have the first handles, and others the last ones
       pub held_both :
           (first last : List SetHandle) (old mid new : Store L P S D d) → KeepsStore old mid
-          → HoldEach old.table.number (current_in layout old) u first (slots_in old) (slots_in mid)
-          → HoldEach mid.table.number (current_in layout mid) u last (slots_in mid) (slots_in new)
-          → HoldEach old.table.number (current_in layout old) u (first ++ last) (slots_in old) (slots_in new)
+          → HoldEach old.table.number layout u first (slots_in old) (slots_in mid)
+          → HoldEach mid.table.number layout u last (slots_in mid) (slots_in new)
+          → HoldEach old.table.number layout u (first ++ last) (slots_in old) (slots_in new)
       held_both first last old mid new stays a b = search (rules, held_stays, joined)

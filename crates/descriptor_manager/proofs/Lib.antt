@@ -10,6 +10,7 @@ mod Handing
 mod Joining
 mod Listed
 mod Naming
+mod Numbering
 mod Owned
 mod Remaining
 mod Requested

@@ -22,9 +22,9 @@ module _ {T : Type 0} (handles : List SetHandle) (frame : ℕ) (old now new : Li
     | inr apart ↦ ap (λ (s : Slot T). s.set) (waited.rest p apart)
   ])
 
-module _ {T : Type 0} (handles : List SetHandle) (number : ℕ) (generations : ℕ → ℕ) (max : ℕ) (old mid : List (Slot T)) where
+module _ {T : Type 0} (handles : List SetHandle) (number : ℕ) (removed : ℕ → Bool) (max : ℕ) (old mid : List (Slot T)) where
   -- held sets that settled, if any did, are in their slots still
-  pub settled_each : (b : Bool) → (b ≡ true → TurnEach handles (IsBack (used_for Going) generations max) old mid) → (b ≡ false → mid ≡ old) → sets_in mid ≡ sets_in old
+  pub settled_each : (b : Bool) → (b ≡ true → TurnEach handles (IsBack (used_for Going) removed max) old mid) → (b ≡ false → mid ≡ old) → sets_in mid ≡ sets_in old
   settled_each false settled none = ap sets_in (none refl)
   settled_each true settled none = same_sets old mid (settled refl).long (λ p. elim (named_or (length handles) (place_at handles) p) [
     | inl found ↦ subst (λ p. (slot_at mid p).set ≡ (slot_at old p).set) found.2 (elim ((settled refl).named found.0 found.1) [
@@ -35,7 +35,7 @@ module _ {T : Type 0} (handles : List SetHandle) (number : ℕ) (generations : �
   ])
 
   -- those that went were returned
-  pub back_each : (new : List (Slot T)) → AreHeldOnce number old handles → TurnEach handles (IsBack (used_for Going) generations max) old mid → ArePlaced old → Turns goes (Becomes vacated) mid new → TurnEach handles (IsBack vacated generations max) old new
+  pub back_each : (new : List (Slot T)) → AreHeldOnce number old handles → TurnEach handles (IsBack (used_for Going) removed max) old mid → ArePlaced old → Turns goes (Becomes vacated) mid new → TurnEach handles (IsBack vacated removed max) old new
   back_each new once settled placed gives = record {
     long = gives.long ∙ settled.long;
     named = λ i lt. (let p = place_at handles i in elim (settled.named i lt) [

@@ -2,8 +2,8 @@
 use Rattle.std.proofs.lemmas.Grind.{common_steps}
 use Rattle.std.proofs.Common.{◌≡◌, ℕ, suc, ◌<◌, ◌&&◌, Bool, true, false, List, [], ◌∷◌, length, None, is_some, refl, ap, ◌∙◌, arith, rules}
 use Rattle.descriptor_table.specs.Sets.{joined, sets_in}
-use Rattle.descriptor_table.specs.Slots.{Slot, slot_at, waits, waits_for}
-use Rattle.descriptor_table.specs.Tables.{count, holds, is_held_use}
+use Rattle.descriptor_table.specs.Slots.{Slot, count, slot_at, waits, waits_for}
+use Rattle.descriptor_table.specs.Tables.{holds, is_held_use}
 use Rattle.descriptor_table.proofs.Counts.{count_none, none_count}
 use Rattle.descriptor_manager.specs.Stores.{AreCleaned, is_placed}
 

@@ -1,5 +1,5 @@
 -- What a request for sets of a layout leaves of a set manager: for `SetManager::allocate_as` and `allocate_into`.
-use Rattle.std.proofs.Common.{◌≡◌, ◌∙◌, ℕ, ◌<◌, true, List, length, slice_index_or, Result, Ok, Err, Some, inl, inr, sym, ap, subst, arith}
+use Rattle.std.proofs.Common.{◌≡◌, ◌∙◌, ℕ, ◌<◌, true, List, length, slice_index_or, Result, Ok, Err, Some, inl, inr, ap, subst, arith}
 use Rattle.std.proofs.lemmas.Bool.{false≢true}
 use Rattle.gpu_descriptor_types.specs.Meaning.{IsOfLayout}
 use Rattle.gpu_descriptor_types.specs.declared.device.DescriptorDevice.{Ghosts}
@@ -8,14 +8,14 @@ use Rattle.gpu_descriptor.specs.declared.layout.SetLayout.{SetLayout}
 use Rattle.gpu_descriptor.specs.declared.set.DescriptorSet.{DescriptorSet}
 use Rattle.descriptor_table.specs.Sets.{NameEach, sets_of}
 use Rattle.descriptor_table.specs.Slots.{is_live, slot_at}
-use Rattle.descriptor_table.specs.Tables.{Settings, came_under, current, place_at}
+use Rattle.descriptor_table.specs.Tables.{place_at}
 use Rattle.descriptor_table.specs.declared.handle.SetHandle.{SetHandle}
 use Rattle.descriptor_table.specs.declared.slot.Use.{Use}
 use Rattle.descriptor_table.proofs.Counting.{below_or}
 use Rattle.descriptor_table.proofs.Holding.{same_default}
 use Rattle.descriptor_manager.specs.LayoutRegistries.{layout_at, layout_slots}
 use Rattle.descriptor_manager.specs.Own.{HasSetsOf}
-use Rattle.descriptor_manager.specs.Stores.{ComesOf, IsRefusedAtLast, Requests, current_in, generations_in, kept_of, slots_in}
+use Rattle.descriptor_manager.specs.Stores.{ComesOf, IsRefusedAtLast, Requests, kept_of, slots_in}
 use Rattle.descriptor_manager.specs.declared.layout_registry.LayoutHandle.{LayoutHandle}
 use Rattle.descriptor_manager.specs.declared.manager.SetManager.{SetManager}
 use Rattle.descriptor_manager.specs.declared.store.Store.{Store}
@@ -23,7 +23,7 @@ use Rattle.descriptor_manager.proofs.Bringing.{brought}
 use Rattle.descriptor_manager.proofs.Arriving.{Clears, same_clears}
 use Rattle.descriptor_manager.proofs.Handing.{came_layout}
 use Rattle.descriptor_manager.proofs.Joining.{are_named}
-use Rattle.descriptor_manager.proofs.Owned.{found_set, layout_here, own_comes, own_known, sets_settle}
+use Rattle.descriptor_manager.proofs.Owned.{found_set, layout_here, own_comes, sets_settle}
 
 module _ {L P S D : Type 0} {d : Ghosts D L P S} (r : SetManager L P S D d) (layout : LayoutHandle) (known : SetLayout L) (place : ℕ) (at : place ≡ layout.slot.place) (found : layout_at r.layouts layout ≡ Some known) where
   here : (slot_at (layout_slots r.layouts) place).set ≡ Some known
@@ -45,7 +45,7 @@ module _ {L P S D : Type 0} {d : Ghosts D L P S} (r : SetManager L P S D d) (lay
       pub names_then : is_live r.frame r.is_open u ≡ true → NameEach handles (sets_of r.manager r.frame r.is_open (slots_in r.store)) (sets_of r.manager r.frame r.is_open (slots_in new))
       names_then live =
           subst (λ n. NameEach handles (sets_of n r.frame r.is_open (slots_in r.store)) (sets_of n r.frame r.is_open (slots_in new))) r.sets.number
-          (are_named r.store.table.number (current_in place r.store) u handles (slots_in r.store) (slots_in requests.takes.ready) (slots_in new) clear requests.takes.holds r.frame r.is_open live)
+          (are_named r.store.table.number place u handles (slots_in r.store) (slots_in requests.takes.ready) (slots_in new) clear requests.takes.holds r.frame r.is_open live)
 
       -- the named sets are of the layout
       pub own_then : (i : ℕ) (e : SetHandle) (x : DescriptorSet S) → i < length handles → (sets_of r.manager r.frame r.is_open (slots_in new)).set (slice_index_or handles i e) ≡ Some x → IsOfLayout d.meaning known.layout x.raw
@@ -54,11 +54,9 @@ module _ {L P S D : Type 0} {d : Ghosts D L P S} (r : SetManager L P S D d) (lay
           let p = place_at handles i in
           let slots = slots_in new in
           let same = ap (λ (h : SetHandle). h.place) (same_default handles i e (record { manager = 0; place = 0; generation = 0 }) lt) in
-          own_known d.meaning (generations_in new) (layout_slots r.layouts) slots (sets_then (Ok result) requests).own h.place place x known (found_set r.manager r.frame r.is_open slots h x is)
-          (ap (λ p. came_under (slot_at slots p)) same
-          ∙ came_layout (current_in place r.store) u (slot_at (slots_in requests.takes.ready) p) (slot_at slots p) (requests.takes.holds.comes i lt)
-          ∙ ap (λ generations. current generations place) (sym (ap (λ (s : Settings). s.generations) requests.settles.stays.settings)))
-          here
+          (sets_then (Ok result) requests).own h.place x known (found_set r.manager r.frame r.is_open slots h x is)
+          (ap (λ n. (slot_at (layout_slots r.layouts) n).set) (ap (λ p. (slot_at slots p).layout) same
+          ∙ came_layout place u (slot_at (slots_in requests.takes.ready) p) (slot_at slots p) (requests.takes.holds.comes i lt)) ∙ here)
 
   -- a request for one set is refused only if none is kept
   pub one_refused : {R : Type 0} (u : Use) (handles : List SetHandle) (new : Store L P S D d) (error : AllocationError) → Requests {R = R} known.layout place 1 u handles (Err error) r.store new → IsRefusedAtLast known.layout 1 1 error r.store new

@@ -12,7 +12,7 @@ use Rattle.descriptor_table.specs.Slots.{frame_of, is_kept_of, is_live, slot_at}
 use Rattle.descriptor_table.specs.Tables.{place_at}
 use Rattle.descriptor_table.specs.declared.handle.SetHandle.{SetHandle}
 use Rattle.descriptor_table.specs.declared.slot.Use.{Use}
-use Rattle.descriptor_manager.specs.Stores.{AsksAtLast, ComesOf, HoldEach, Holds, IsAtRest, IsRefusedAtLast, KeepsStore, NoneComes, Requests, current_in, kept_of, side_of, slots_in}
+use Rattle.descriptor_manager.specs.Stores.{AsksAtLast, ComesOf, HoldEach, Holds, IsAtRest, IsRefusedAtLast, KeepsStore, NoneComes, Requests, kept_of, side_of, slots_in}
 use Rattle.descriptor_manager.specs.declared.store.Store.{Store}
 use Rattle.descriptor_manager.proofs.Arriving.{Clears, arrived, same_clears}
 use Rattle.descriptor_manager.proofs.Bringing.{brought}
@@ -30,13 +30,12 @@ gained {L} {P} {S} {D} {d} ready new side none t = omega (arith, ap (λ (s : Sid
 module _ {L P S D : Type 0} {d : Ghosts D L P S} {R : Type 0} (known : L) (layout many : ℕ) (u : Use) (handles : List SetHandle) (old new : Store L P S D d) where
   pub from_kept :
       (result : R) → is_live (frame_of u) true u ≡ true → IsAtRest old → many ≤ kept_of layout old
-      → HoldEach old.table.number (current_in layout old) u handles (slots_in old) (slots_in new)
+      → HoldEach old.table.number layout u handles (slots_in old) (slots_in new)
       → ((i : ℕ) → i < length handles → is_kept_of layout (slot_at (slots_in old) (place_at handles i)) ≡ true)
       → length (slots_in new) ≡ length (slots_in old) → Holds NoneComes old new → new.coming.items ≡ old.coming.items
       → Requests known layout many u handles (Ok result) old new
   from_kept result live rest enough holds were_kept long keeps coming =
       let number = old.table.number in
-      let under = current_in layout old in
       let before = slots_in old in
       let after = slots_in new in
       let clear : (q : ℕ) → Clears (slot_at before q) (slot_at before q) = λ q. same_clears (slot_at before q) (slot_at before q) refl in
@@ -53,7 +52,7 @@ module _ {L P S D : Type 0} {d : Ghosts D L P S} {R : Type 0} (known : L) (layou
         };
         kept = λ le. (refl, keeps.side, long);
         refused = tt;
-        settles = arrived comes old new (holds_arrives number under u handles before before after clear holds live comes (kept_then comes before after after keeps.sets (λ p x e. inl (e, refl)))) (coming ∙ rest.none_coming) rest keeps.stays;
+        settles = arrived comes old new (holds_arrives number layout u handles before before after clear holds live comes (kept_then comes before after after keeps.sets (λ p x e. inl (e, refl)))) (coming ∙ rest.none_coming) rest keeps.stays;
         grows = keeps.grows;
       }
 
@@ -61,7 +60,7 @@ module _ {L P S D : Type 0} {d : Ghosts D L P S} {R : Type 0} (known : L) (layou
   -- the allocator gave the sets that were missing, and all have handles
   pub from_asked :
       (handles : List SetHandle) (result : R) (new : Store L P S D d) → is_live (frame_of u) true u ≡ true → KeepsStore old asked → AsksAtLast known (many - kept_of layout old) many old asked
-      → HoldEach asked.table.number (current_in layout asked) u handles (slots_in asked) (slots_in new)
+      → HoldEach asked.table.number layout u handles (slots_in asked) (slots_in new)
       → ((i : ℕ) → i < length handles → i < kept_of layout asked → is_kept_of layout (slot_at (slots_in asked) (place_at handles i)) ≡ true)
       → Holds (ComesOf d.meaning known layout) asked new → new.coming.items ≡ []
       → Requests known layout many u handles (Ok result) old new
@@ -81,7 +80,7 @@ module _ {L P S D : Type 0} {d : Ghosts D L P S} {R : Type 0} (known : L) (layou
         };
         kept = λ enough. absurd (omega arith);
         refused = tt;
-        settles = arrived comes old new (holds_arrives old.table.number (current_in layout old) u handles (slots_in old) (slots_in asked) (slots_in new) brings.clear held live comes keeps.sets) none rest (stays_then old asked new stays keeps.stays);
+        settles = arrived comes old new (holds_arrives old.table.number layout u handles (slots_in old) (slots_in asked) (slots_in new) brings.clear held live comes keeps.sets) none rest (stays_then old asked new stays keeps.stays);
         grows = grow_from (slots_in old) (slots_in asked) (slots_in new) brings.long keeps.grows;
       }
 

@@ -27,16 +27,16 @@ module _ {T : Type 0} (frame : ℕ) (opened : Bool) where
   quiet_shown o n g was is = search rules
 
   -- a freed set has no live handle, whether it is kept or left
-  back_quiet : (generations : ℕ → ℕ) (max : ℕ) (new : List (Slot T)) (o n : Slot T) → IsBack vacated generations max new o n → (is_live frame opened n.used ≡ false) × (n.generation ≡ o.generation)
-  back_quiet generations max new o n back = search rules
+  back_quiet : (removed : ℕ → Bool) (max : ℕ) (new : List (Slot T)) (o n : Slot T) → IsBack vacated removed max new o n → (is_live frame opened n.used ≡ false) × (n.generation ≡ o.generation)
+  back_quiet removed max new o n back = search rules
 
   -- each slot shows what it showed, since those that turn do
   pub turned : (test : Slot T → Bool) (becomes : List (Slot T) → Slot T → Slot T → Type 0) (old new : List (Slot T)) → Turns test becomes old new → ((o n : Slot T) → test o ≡ true → becomes new o n → ShowsSame frame opened o n) → (p : ℕ) → ShowsSame frame opened (slot_at old p) (slot_at new p)
   turned test becomes old new turns shows p = search (rules, same_shown)
 
   -- sets that were freed leave the names of all others
-  pub back_names : (generations : ℕ → ℕ) (number due max : ℕ) (old new : List (Slot T)) → (opened ≡ true → due < frame) → Turns (is_due due) (IsBack vacated generations max) old new → sets_of number frame opened new ≡ sets_of number frame opened old
-  back_names generations number due max old new later turns = search (rules, back_quiet, due_use, names_kept, quiet_shown, turned)
+  pub back_names : (removed : ℕ → Bool) (number due max : ℕ) (old new : List (Slot T)) → (opened ≡ true → due < frame) → Turns (is_due due) (IsBack vacated removed max) old new → sets_of number frame opened new ≡ sets_of number frame opened old
+  back_names removed number due max old new later turns = search (rules, back_quiet, due_use, names_kept, quiet_shown, turned)
 
   -- kept sets that left leave all names, and so does a cleanup, below
   pub trim_names : (number : ℕ) (old new : List (Slot T)) → Turns is_kept (MayBecome vacated) old new → sets_of number frame opened new ≡ sets_of number frame opened old
@@ -50,12 +50,12 @@ module _ {T : Type 0} (frame : ℕ) (opened : Bool) where
 
   -- freed sets, and those that wait, have no handle
   pub freed_names :
-      (generations : ℕ → ℕ) (number max : ℕ) (handles : List SetHandle) (old new : List (Slot T))
+      (removed : ℕ → Bool) (number max : ℕ) (handles : List SetHandle) (old new : List (Slot T))
       → AreHeldOnce number old handles
-      → TurnEach handles (IsBack vacated generations max) old new
+      → TurnEach handles (IsBack vacated removed max) old new
       → LoseNames handles (sets_of number frame opened old) (sets_of number frame opened new)
-  freed_names generations number max handles old new once turns =
-      let quiet : (i : ℕ) → i < length handles → _ = λ i lt. back_quiet generations max new (slot_at old (place_at handles i)) (slot_at new (place_at handles i)) (turns.named i lt) in
+  freed_names removed number max handles old new once turns =
+      let quiet : (i : ℕ) → i < length handles → _ = λ i lt. back_quiet removed max new (slot_at old (place_at handles i)) (slot_at new (place_at handles i)) (turns.named i lt) in
       names_lost number frame opened handles old new once (λ i lt. (quiet i lt).0) (λ i lt. (quiet i lt).1) turns.rest
 
   pub waited_names : (number until : ℕ) (handles : List SetHandle) (old new : List (Slot T)) → AreHeldOnce number old handles → TurnEach handles (Becomes (used_for (Waits until))) old new → LoseNames handles (sets_of number frame opened old) (sets_of number frame opened new)

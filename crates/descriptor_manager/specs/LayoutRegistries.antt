@@ -3,7 +3,7 @@ use Rattle.std.specs.Prelude.{◌≡◌, ℕ, false, List, Option}
 use Rattle.gpu_descriptor_types.specs.declared.device.DescriptorDevice.{Ghosts}
 use Rattle.gpu_descriptor.specs.declared.layout.SetLayout.{SetLayout}
 use Rattle.descriptor_table.specs.Sets.{Sets, sets_of}
-use Rattle.descriptor_table.specs.Tables as tables
+use Rattle.descriptor_table.specs.Handles.{values_of}
 use Rattle.descriptor_table.specs.Slots.{Slot}
 use Rattle.descriptor_manager.specs.declared.layout_registry.LayoutHandle.{LayoutHandle}
 use Rattle.descriptor_manager.specs.declared.layout_registry.LayoutRegistry.{LayoutRegistry}
@@ -15,7 +15,7 @@ module _ {L P S D : Type 0} {d : Ghosts D L P S} where
 
   -- the slots of the layouts
   abbrev pub layout_slots : LayoutRegistry L P S D d → List (Slot (SetLayout L))
-  layout_slots r = tables.slots_of r.table
+  layout_slots r = values_of r.table
 
   -- the slots and the number are as they were
   pub record KeepsLayouts (old new : LayoutRegistry L P S D d) : Type 0 where

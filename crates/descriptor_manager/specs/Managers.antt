@@ -1,5 +1,5 @@
 -- What a set manager has: layouts, frames, sets by handle, and the pools of its device.
-use Rattle.std.specs.Prelude.{◌≡◌, ℕ, ◌-◌, ◌<◌, Bool, List, length, Option, None, Some, min, slice_index_or, ◌↔◌, Result, OnErr, IsErrOf, if◌then◌else◌}
+use Rattle.std.specs.Prelude.{◌≡◌, ℕ, ◌-◌, ◌<◌, ◌⊎◌, true, Bool, List, length, Option, None, Some, min, slice_index_or, ◌↔◌, Result, OnErr, IsErrOf, if◌then◌else◌, is_some}
 use Rattle.gpu_descriptor_types.specs.Ledger.{Pool}
 use Rattle.gpu_descriptor_types.specs.Meaning.{IsOfLayout}
 use Rattle.gpu_descriptor_types.specs.Side.{Side}
@@ -11,12 +11,12 @@ use Rattle.gpu_descriptor.specs.declared.layout.SetLayout.{SetLayout}
 use Rattle.gpu_descriptor.specs.declared.set.DescriptorSet.{DescriptorSet}
 use Rattle.descriptor_table.specs.Sets.{NameEach, Sets, sets_of}
 use Rattle.descriptor_table.specs.declared.handle.SetHandle.{SetHandle}
-use Rattle.descriptor_table.specs.Slots.{Slot}
+use Rattle.descriptor_table.specs.Slots.{Slot, count, is_set_of, slot_at}
 use Rattle.descriptor_manager.specs.LayoutRegistries.{layout_at, layout_slots, layouts_by}
 use Rattle.descriptor_manager.specs.Stores as stores
 use Rattle.descriptor_manager.specs.declared.layout_registry.LayoutHandle.{LayoutHandle}
 use Rattle.descriptor_manager.specs.declared.manager.SetManager.{SetManager}
-use Rattle.descriptor_table.specs.Tables.{Grows}
+use Rattle.descriptor_table.specs.Tables.{Grows, is_usable}
 use Rattle.descriptor_manager.specs.declared.errors.RequestError.{RequestError}
 use Rattle.descriptor_manager.specs.declared.errors.RequestError.TheVariants.{NoFrame, NoLayout}
 
@@ -30,8 +30,8 @@ pub record Rendering (L P S : Type 0) : Type 0 where
   pub is_open : Bool
   -- the slots of its sets, each with its layout and what it is in use for
   pub slots : List (Slot (DescriptorSet S))
-  -- how many layouts of each number were removed
-  pub generations : ℕ → ℕ
+  -- whether a layout has the number. Else no set that is left under it is kept once it is freed
+  pub has_layout : ℕ → Bool
   -- the max of the kept sets of a layout
   pub keep : ℕ
   -- the allocator, and the ledger of the device
@@ -40,6 +40,10 @@ pub record Rendering (L P S : Type 0) : Type 0 where
   pub limit : ℕ
   -- the bound on the descriptors of a new pool, which only the sets still needed exceed
   pub bound : Option ℕ
+
+-- sets are left of each layout whose number may be used again, or a number gave its last handle
+abbrev pub NoneFree : {X T : Type 0} → List (Slot X) → List (Slot T) → Type 0
+NoneFree layouts slots = ((n : ℕ) → is_usable (slot_at layouts n) ≡ true → 0 < count (is_set_of n) slots) ⊎ ((n : ℕ) × ((slot_at layouts n).set ≡ None) × ((slot_at layouts n).generation ≡ 4294967295))
 
 -- a set manager over a device
 abbrev pub ManagerOver : {L P S D : Type 0} → Ghosts D L P S → Type 0
@@ -99,7 +103,7 @@ module _ {L P S D : Type 0} {d : Ghosts D L P S} where
     frame = frame_of r;
     is_open = is_open r;
     slots = slots_of r;
-    generations = stores.generations_in r.store;
+    has_layout = λ n. is_some (slot_at (layouts_in r) n).set;
     keep = r.store.table.keep;
     side = side_of r;
     pools_besides = pools_besides r;

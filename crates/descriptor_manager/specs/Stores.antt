@@ -1,5 +1,5 @@
 -- What a set manager's store has (the table of its sets, and the allocator over a device), and what its calls do.
-use Rattle.std.specs.Prelude.{◌≡◌, ◌≢◌, ℕ, zero, suc, ◌+◌, ◌-◌, ◌<◌, ◌≤◌, ◌⊎◌, ◌||◌, true, not, Bool, List, [], ◌∷◌, length, slice_index_or, if◌then◌else◌, is_some, Option, Result, Some, Ok, Err, None, IfErr, IsOk, OnOk}
+use Rattle.std.specs.Prelude.{◌≡◌, ◌≢◌, ℕ, ◌+◌, ◌-◌, ◌<◌, ◌≤◌, ◌⊎◌, ◌||◌, true, not, Bool, List, [], ◌∷◌, length, slice_index_or, if◌then◌else◌, is_some, Option, Result, Some, Ok, Err, None, IfErr, IsOk, OnOk}
 use Rattle.gpu_descriptor_types.specs.Ledger.{Pool}
 use Rattle.gpu_descriptor.specs.Caller.Others.{others_of}
 use Rattle.gpu_descriptor_types.specs.Meaning.{IsOfLayout, Meaning}
@@ -19,8 +19,8 @@ use Rattle.gpu_descriptor.specs.declared.errors.AllocationError.TheVariants.{Out
 use Rattle.gpu_descriptor.specs.declared.layout.SetLayout.{SetLayout}
 use Rattle.gpu_descriptor.specs.declared.set.DescriptorSet.{DescriptorSet}
 use Rattle.descriptor_table.specs.Sets.{sets_in}
-use Rattle.descriptor_table.specs.Slots.{filled, is_kept_of, slot_at, waits}
-use Rattle.descriptor_table.specs.Tables.{Becomes, Grows, HasRoom, IsBack, Turns, aged, came_under, count, current, generations_of, holds, is_kept, is_usable, lists_of, place_at, removed_at, settings_of, renewed, slots_of, vacated}
+use Rattle.descriptor_table.specs.Slots.{count, filled, is_kept_of, slot_at, waits}
+use Rattle.descriptor_table.specs.Tables.{Becomes, Grows, HasLayout, HasRoom, IsBack, Turns, aged, holds, is_kept, is_usable, place_at, removed_of, removed_with, settings_of, renewed, slots_of, vacated}
 use Rattle.descriptor_table.specs.declared.handle.SetHandle.{SetHandle}
 use Rattle.descriptor_table.specs.Slots.{Slot}
 use Rattle.descriptor_table.specs.declared.slot.Use.{Use}
@@ -34,17 +34,17 @@ is_placed s = not (is_some s.set) || (holds s || (waits s || is_kept s))
 abbrev pub AreCleaned : {T : Type 0} → List (Slot T) → List (Slot T) → Type 0
 AreCleaned {T} = Turns (λ s. true) (Becomes (λ (s : Slot T). if is_kept s then vacated (aged s) else aged s))
 
--- a kept set of the layout, or one that came under it into a vacant slot, is in this use, under the next handle of the slot
-abbrev pub ComesInto : {T : Type 0} → ℕ × ℕ → Use → Slot T → Slot T → Type 0
-ComesInto {T} under u o n = ((is_kept_of under.0 o ≡ true) × (came_under o ≡ under) × (n ≡ renewed u o)) ⊎ ((o.set ≡ None) × (x : T) × (n ≡ renewed u (filled under.0 under.1 x o)))
+-- a kept set of the layout, or one of it that came into a vacant slot, is in this use, under the next handle of the slot
+abbrev pub ComesInto : {T : Type 0} → ℕ → Use → Slot T → Slot T → Type 0
+ComesInto {T} layout u o n = ((is_kept_of layout o ≡ true) × (n ≡ renewed u o)) ⊎ ((o.set ≡ None) × (x : T) × (n ≡ renewed u (filled layout x o)))
 
 -- sets that were kept or are new are in this use under the handles, and all else is as it was
-pub record HoldEach {T : Type 0} (number : ℕ) (under : ℕ × ℕ) (u : Use) (handles : List SetHandle) (old new : List (Slot T)) : Type 0 where
+pub record HoldEach {T : Type 0} (number layout : ℕ) (u : Use) (handles : List SetHandle) (old new : List (Slot T)) : Type 0 where
   -- no two have one place
   pub apart : (i j : ℕ) → i < j → j < length handles → place_at handles i ≢ place_at handles j
   -- each is the next handle of its slot
   pub is : (i : ℕ) (e : SetHandle) → i < length handles → slice_index_or handles i e ≡ record { manager = number; place = place_at handles i; generation = (slot_at old (place_at handles i)).generation + 1 }
-  pub comes : (i : ℕ) → i < length handles → ComesInto under u (slot_at old (place_at handles i)) (slot_at new (place_at handles i))
+  pub comes : (i : ℕ) → i < length handles → ComesInto layout u (slot_at old (place_at handles i)) (slot_at new (place_at handles i))
   pub rest : (p : ℕ) → ((i : ℕ) → i < length handles → place_at handles i ≢ p) → slot_at new p ≡ slot_at old p
 
 -- the handle of a request for one set, if it was met
@@ -68,12 +68,7 @@ pub record GaveBack {L P S : Type 0} (means : Meaning L P S) (old new : Side (Al
 module _ {S : Type 0} where
   -- each set was in its slot before, under its layout, or passes the test
   abbrev pub SetsCome : (ℕ → DescriptorSet S → Type 0) → List (Slot (DescriptorSet S)) → List (Slot (DescriptorSet S)) → Type 0
-  SetsCome comes old new = (p : ℕ) (x : DescriptorSet S) → (slot_at new p).set ≡ Some x → (((slot_at old p).set ≡ Some x) × (came_under (slot_at new p) ≡ came_under (slot_at old p))) ⊎ comes (slot_at new p).layout x
-
--- how many lists a table with this many layouts has
-abbrev pub lists_for : ℕ → ℕ
-lists_for zero = 0
-lists_for (suc n) = n + 3
+  SetsCome comes old new = (p : ℕ) (x : DescriptorSet S) → (slot_at new p).set ≡ Some x → (((slot_at old p).set ≡ Some x) × ((slot_at new p).layout ≡ (slot_at old p).layout)) ⊎ comes (slot_at new p).layout x
 
 -- a store over a device
 abbrev pub StoreOver : {L P S D : Type 0} → Ghosts D L P S → Type 0
@@ -88,17 +83,9 @@ module _ {L P S D : Type 0} {d : Ghosts D L P S} where
   abbrev pub side_of : StoreOver d → Side (Allocations P)
   side_of s = side s.allocator (d.ledger s.device)
 
-  -- how many layouts of each number were removed
-  abbrev pub generations_in : StoreOver d → ℕ → ℕ
-  generations_in s = generations_of s.table
-
-  -- the layout that has the number now
-  abbrev pub current_in : ℕ → StoreOver d → ℕ × ℕ
-  current_in layout s = current (generations_in s) layout
-
-  -- the layout of this number was added to the table
-  abbrev pub HasLayout : ℕ → StoreOver d → Type 0
-  HasLayout layout s = layout + 2 < lists_of s.table
+  -- whether the layout of each number was removed
+  abbrev pub removed_in : StoreOver d → ℕ → Bool
+  removed_in s = removed_of s.table
 
   -- the live pools of the device that aren't the allocator's
   abbrev pub pools_besides : StoreOver d → ℕ → Option Pool
@@ -113,16 +100,16 @@ module _ {L P S D : Type 0} {d : Ghosts D L P S} where
     pub none_coming : s.coming.items ≡ []
     pub placed : (p : ℕ) → is_placed (slot_at (slots_in s) p) ≡ true
 
-  -- this many layouts of each number were removed, and at most `max` sets of a layout are kept. Else the settings of the table are as they were, and so are limit, bound, and the pools that aren't the allocator's
-  pub record StoreStays (removed : ℕ → ℕ) (max : ℕ) (old new : StoreOver d) : Type 0 where
-    pub settings : settings_of new.table ≡ record (settings_of old.table) { generations = removed; keep = max }
+  -- the layouts of these numbers were removed, and at most `max` sets of a layout are kept. Else the settings of the table are as they were, and so are limit, bound, and the pools that aren't the allocator's
+  pub record StoreStays (removed : ℕ → Bool) (max : ℕ) (old new : StoreOver d) : Type 0 where
+    pub settings : settings_of new.table ≡ record (settings_of old.table) { removed = removed; keep = max }
     pub limit : new.allocator.limit ≡ old.allocator.limit
     pub bound : new.allocator.bound ≡ old.allocator.bound
     pub besides : pools_besides new ≡ pools_besides old
 
   -- all of these are as they were
   abbrev pub KeepsStore : StoreOver d → StoreOver d → Type 0
-  KeepsStore old new = StoreStays (generations_in old) old.table.keep old new
+  KeepsStore old new = StoreStays (removed_in old) old.table.keep old new
 
   -- the slots, the allocator and the ledger are as they were, and the same sets are on their way into the table
   pub record KeepsContents (old new : StoreOver d) : Type 0 where
@@ -131,19 +118,19 @@ module _ {L P S D : Type 0} {d : Ghosts D L P S} where
     pub coming : new.coming.items ≡ old.coming.items
 
   -- each set was in its slot before, under its layout, or passes the test; none is on its way into the table
-  pub record SettlesTo (removed : ℕ → ℕ) (max : ℕ) (comes : ℕ → DescriptorSet S → Type 0) (old new : StoreOver d) : Type 0 where
+  pub record SettlesTo (removed : ℕ → Bool) (max : ℕ) (comes : ℕ → DescriptorSet S → Type 0) (old new : StoreOver d) : Type 0 where
     pub sets : SetsCome comes (slots_in old) (slots_in new)
     pub rest : IsAtRest new
     pub stays : StoreStays removed max old new
 
   -- the same, with layouts and the max of kept sets as they were
   abbrev pub Settles : (ℕ → DescriptorSet S → Type 0) → StoreOver d → StoreOver d → Type 0
-  Settles comes old new = SettlesTo (generations_in old) old.table.keep comes old new
+  Settles comes old new = SettlesTo (removed_in old) old.table.keep comes old new
 
   -- sets of the layout, which has this number, may be requested
   pub record CanTake (known : SetLayout L) (number : ℕ) (s : StoreOver d) : Type 0 where
     pub meant : IsMeant d.meaning known
-    pub layout : HasLayout number s
+    pub layout : HasLayout number s.table
     pub rest : IsAtRest s
 
   -- sets returned to their pools, and then all empty pools were destroyed
@@ -207,14 +194,13 @@ module _ {L P S D : Type 0} {d : Ghosts D L P S} where
 
   -- a set that is freed is kept, or left its slot
   abbrev pub IsFreed : StoreOver d → List (Slot (DescriptorSet S)) → Slot (DescriptorSet S) → Slot (DescriptorSet S) → Type 0
-  IsFreed s = IsBack vacated (generations_in s) s.table.keep
+  IsFreed s = IsBack vacated (removed_in s) s.table.keep
 
   -- one free_from returned the kept sets of the layout to their pools, if there were any, and all other slots are as they were. Then the empty pools of its key were destroyed
   pub record Removes (known : L) (layout : ℕ) (old new : StoreOver d) : Type 0 where
     pub turns : Turns (is_kept_of layout) (Becomes vacated) (slots_in old) (slots_in new)
-    -- one more layout of the number was removed. Each set that is left under the number is of one of these, so it isn't kept once it is freed
-    pub generations : generations_in new ≡ removed_at layout (generations_in old)
-    pub past : (p : ℕ) → (slot_at (slots_in new) p).layout ≡ layout → (slot_at (slots_in new) p).layout_generation < generations_in new layout
+    -- so a set that is left under the number isn't kept once it is freed
+    pub removed : removed_in new ≡ removed_with layout (removed_in old)
     pub mid : Side (Allocations P)
     pub back : GaveBack d.meaning (side_of old) mid
     -- the sets that were there are the returned ones and those that are left
@@ -228,7 +214,7 @@ module _ {L P S D : Type 0} {d : Ghosts D L P S} where
     pub enough : many ≤ kept_of layout old → ready ≡ old
     pub asks : kept_of layout old < many → AsksAtLast known (many - kept_of layout old) many old ready
     pub kept_first : (i : ℕ) → i < length handles → i < kept_of layout ready → is_kept_of layout (slot_at (slots_in ready) (place_at handles i)) ≡ true
-    pub holds : HoldEach old.table.number (current_in layout old) u handles (slots_in ready) (slots_in new)
+    pub holds : HoldEach old.table.number layout u handles (slots_in ready) (slots_in new)
     pub side : side_of new ≡ side_of ready
     -- the sets that were on their way are in the table
     pub gained : (t : Item) → count_of t (items_of d.meaning.set_name (sets_in (slots_in new))) ≡ count_of t (items_of d.meaning.set_name (sets_in (slots_in ready))) + count_of t (items_of d.meaning.set_name ready.coming.items)

@@ -1,11 +1,11 @@
 //! The set manager: its layouts, and the calls that concern all its sets.
-ghost use Rattle.std.specs.Prelude.{◌≡◌, ◌≢◌, ◌≤◌, ◌↔◌, []};
+ghost use Rattle.std.specs.Prelude.{◌≡◌, ◌≢◌, ◌≤◌, ◌⊎◌, ◌↔◌, ℕ, [], length};
 ghost use Rattle.std.specs.Prelude.{IfErr, IfOk, IsErrOf, IsSome, None, OnErr, OnOk, Some, false, true};
 ghost use Rattle.std.specs.Option.{option_copied};
 ghost use Rattle.gpu_descriptor.specs.Caller.CleansUp.{Sweeps};
 ghost use Rattle.gpu_descriptor.specs.Caller.SetLayouts.{IsMeant};
-ghost use Rattle.descriptor_table.specs.Slots.{is_kept_of, waits};
-ghost use Rattle.descriptor_table.specs.Tables.{Grows, KeepsUpTo, MayBecome, Turns, count, holds, is_kept};
+ghost use Rattle.descriptor_table.specs.Slots.{count, is_kept_of, is_set_of, slot_at, waits};
+ghost use Rattle.descriptor_table.specs.Tables.{KeepsUpTo, MayBecome, Turns, holds, is_kept};
 ghost use Rattle.descriptor_table.specs.Tables.{vacated};
 ghost use Rattle.descriptor_manager.specs.LayoutRegistries.{layout_slots, registry_of};
 ghost use Rattle.descriptor_manager.specs.Own.{HasSetsOf};
@@ -69,7 +69,7 @@ pub struct SetManager<L, P, S, D: DescriptorDevice<L, P, S>> {
 impl<L: Drop, P: Drop, S: Drop, D: DescriptorDevice<L, P, S>> SetManager<L, P, S, D> {
     ghost use Rattle.gpu_descriptor.specs.declared.layout.SetLayout.{SetLayout};
     ghost use Rattle.descriptor_manager.specs.declared.layout_registry.LayoutHandle.{LayoutHandle};
-    ghost use Rattle.descriptor_manager.specs.Managers.{OnlySetsChange, frame_of, is_open};
+    ghost use Rattle.descriptor_manager.specs.Managers.{NoneFree, OnlySetsChange, frame_of, is_open};
     ghost use Rattle.descriptor_manager.specs.Managers.{kept_of, layout_of};
     ghost use Rattle.descriptor_manager.specs.Managers.{layouts_in};
     ghost use Rattle.descriptor_manager.specs.Managers.{pools_besides, seen};
@@ -102,8 +102,9 @@ impl<L: Drop, P: Drop, S: Drop, D: DescriptorDevice<L, P, S>> SetManager<L, P, S
         }
     }
 
-    /// Adds a layout and returns its handle, which is never given again. If memory runs out, or if
-    /// `u32::MAX` layouts are there already, it returns the layout in the error, and nothing changes.
+    /// Adds a layout and returns its handle, which is never given again. A removed layout's memory is used
+    /// again once all its sets are back in their pools. If memory runs out, or if there are `u32::MAX` layouts
+    /// with the removed ones of which sets are left, it returns the layout in the error, and nothing changes.
     pub fn add_layout(
         &mut self,
         layout: SetLayout<L>,
@@ -113,24 +114,60 @@ impl<L: Drop, P: Drop, S: Drop, D: DescriptorDevice<L, P, S>> SetManager<L, P, S
         ensures never { IfOk result (λ handle. (seen self.old).given handle ≡ false) }
         ensures given { IfOk result (λ handle. (seen self.new).given handle ≡ true) }
         ensures fresh { IfOk result (λ handle. layout_of self.old handle ≡ None) }
+        ensures unused { IfOk result (λ handle. (p : ℕ) → is_set_of handle.slot.place
+            (slot_at (slots_of self.new) p) ≡ false) }
         ensures others { IfOk result (λ handle. (other : LayoutHandle) → other ≢ handle
             → (layout_of self.new other ≡ layout_of self.old other)
             × ((seen self.new).given other ≡ (seen self.old).given other)) }
-        ensures grows { Grows (layouts_in self.old) (layouts_in self.new) }
+        ensures grows { (length (layouts_in self.new) ≡ length (layouts_in self.old))
+            ⊎ NoneFree (layouts_in self.old) (slots_of self.old) }
         ensures stay { OnErr result (seen self.new ≡ seen self.old) }
         ensures back { IfErr result (λ failed. failed.value ≡ layout) }
-        ensures rest { seen self.new ≡ record (seen self.old)
-            { layouts = layout_of self.new; given = (seen self.new).given } }
+        ensures rest { seen self.new ≡ record (seen self.old) {
+          layouts = layout_of self.new;
+          given = (seen self.new).given;
+          has_layout = (seen self.new).has_layout;
+        } }
+    {
+        if let Some(number) = self.store.renew_layout() {
+            if self.layouts.is_usable(number) {
+                return Ok(self.layouts.renew(number, layout));
+            }
+        }
+        self.add_number(layout)
+    }
+
+    /// Adds a layout under a new number. It is out of line, so that a layout that gets the number of a removed
+    /// one saves no registers for it.
+    #[cold]
+    #[inline(never)]
+    fn add_number(
+        &mut self,
+        layout: SetLayout<L>,
+    ) -> Result<LayoutHandle, AllocFailed<SetLayout<L>>>
+        requires { IsMeant D.meaning layout }
+        ensures added { IfOk result (λ handle. layout_of self.new handle ≡ Some layout) }
+        ensures never { IfOk result (λ handle. (seen self.old).given handle ≡ false) }
+        ensures given { IfOk result (λ handle. (seen self.new).given handle ≡ true) }
+        ensures fresh { IfOk result (λ handle. layout_of self.old handle ≡ None) }
+        ensures unused { IfOk result (λ handle. (p : ℕ) → is_set_of handle.slot.place
+            (slot_at (slots_of self.new) p) ≡ false) }
+        ensures others { IfOk result (λ handle. (other : LayoutHandle) → other ≢ handle
+            → (layout_of self.new other ≡ layout_of self.old other)
+            × ((seen self.new).given other ≡ (seen self.old).given other)) }
+        ensures stay { OnErr result (seen self.new ≡ seen self.old) }
+        ensures back { IfErr result (λ failed. failed.value ≡ layout) }
+        ensures rest { seen self.new ≡ record (seen self.old) {
+          layouts = layout_of self.new;
+          given = (seen self.new).given;
+          has_layout = (seen self.new).has_layout;
+        } }
     {
         if self.store.reserve_layout().is_err() || self.layouts.reserve().is_err() {
             return Err(AllocFailed { value: layout });
         }
-        let places = self.layouts.places();
-        let handle = self.layouts.add(layout);
-        if self.layouts.places() > places {
-            self.store.add_layout();
-        }
-        Ok(handle)
+        self.store.add_layout();
+        Ok(self.layouts.add(layout))
     }
 
     /// Removes a layout and returns it. Its handle is invalid from now on. The layout's kept sets return
@@ -154,7 +191,7 @@ impl<L: Drop, P: Drop, S: Drop, D: DescriptorDevice<L, P, S>> SetManager<L, P, S
         ensures rest { seen self.new ≡ record (seen self.old) {
           layouts = layout_of self.new;
           slots = slots_of self.new;
-          generations = (seen self.new).generations;
+          has_layout = (seen self.new).has_layout;
           side = side_of self.new;
         } }
     {

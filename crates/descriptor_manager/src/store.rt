@@ -1,5 +1,5 @@
 //! A set manager's table of sets, its allocator and its device.
-ghost use Rattle.std.specs.Prelude.{◌≡◌, ◌≤◌, ◌+◌, ◌<◌, ◌↔◌, [], length, IfErr, IsTrue, OnOk, Some, option_map};
+ghost use Rattle.std.specs.Prelude.{◌≡◌, ◌≤◌, ◌+◌, ◌<◌, ◌↔◌, [], length, false, IfErr, IfSome, IsTrue, None, OnOk, Some, option_map};
 ghost use Rattle.std.specs.Option.{option_copied};
 ghost use Rattle.gpu_descriptor.specs.Caller.Flags as flags;
 ghost use Rattle.gpu_descriptor.specs.Caller.SetLayouts.{IsMeant};
@@ -7,8 +7,9 @@ ghost use Rattle.gpu_descriptor.specs.Caller.Sets.{raw_of};
 ghost use Rattle.gpu_descriptor.specs.Caller.States.{Agrees, outstanding_of, state_of};
 ghost use Rattle.gpu_descriptor.proofs.callers.OneAgreement.{Agrees-prop};
 ghost use Rattle.descriptor_table.specs.Sets.{find, sets_in};
-ghost use Rattle.descriptor_table.specs.Slots.{generation_at, waits};
-ghost use Rattle.descriptor_table.specs.Tables.{HasListRoom, HasRoom, count, holds, is_kept, lists_of, lists_with, settings_of, slots_of};
+ghost use Rattle.descriptor_table.specs.Slots.{count, waits};
+ghost use Rattle.descriptor_table.specs.Tables.{AreNoneFree, HasLayout, HasListRoom, HasRoom, OnlySettings, Renewed, holds, is_kept};
+ghost use Rattle.descriptor_table.specs.Tables.{layouts_of, settings_of, slots_of};
 ghost use Rattle.descriptor_manager.specs.Exact.{AreExactly};
 
 mod back;
@@ -50,7 +51,7 @@ pub(crate) struct Store<L, P, S, D: DescriptorDevice<L, P, S>> {
 }
 
 impl<L: Drop, P: Drop, S: Drop, D: DescriptorDevice<L, P, S>> Store<L, P, S, D> {
-    ghost use Rattle.descriptor_manager.specs.Stores.{HasLayout, IsAtRest, KeepsContents, KeepsStore, kept_of};
+    ghost use Rattle.descriptor_manager.specs.Stores.{IsAtRest, KeepsContents, KeepsStore, kept_of};
     ghost use Rattle.descriptor_manager.specs.Stores.{ExceedsLimitAlone, LacksRoom};
     ghost use Rattle.descriptor_manager.specs.Stores.{pools_besides, side_of, slots_in};
 
@@ -64,8 +65,8 @@ impl<L: Drop, P: Drop, S: Drop, D: DescriptorDevice<L, P, S>> Store<L, P, S, D> 
         ensures bound { result.allocator.bound ≡ Some 65536 }
         ensures settings { settings_of result.table ≡ record {
           number = number;
-          lists = 0;
-          generations = generation_at [];
+          layouts = 0;
+          removed = λ layout. false;
           keep = u32.MAX;
         } }
         ensures rest { IsAtRest result }
@@ -90,14 +91,25 @@ impl<L: Drop, P: Drop, S: Drop, D: DescriptorDevice<L, P, S>> Store<L, P, S, D> 
         self.table.reserve_layout()
     }
 
-    /// Adds a layout into reserved memory.
+    /// Adds a layout under the next number, in reserved memory.
     pub(crate) fn add_layout(&mut self)
         requires { HasListRoom self.old.table }
         ensures settings { settings_of self.new.table ≡ record (settings_of self.old.table)
-            { lists = lists_with (lists_of self.old.table) } }
+            { layouts = layouts_of self.old.table + 1 } }
         ensures contents { KeepsContents self.old self.new }
     {
         self.table.add_layout();
+    }
+
+    /// Adds a layout under the number of a removed one of which no set is left. `None` if there is no
+    /// such number.
+    pub(crate) fn renew_layout(&mut self) -> Option<u32>
+        ensures renews { IfSome result (λ layout. Renewed layout self.old.table self.new.table) }
+        ensures none { result ≡ None → AreNoneFree self.old.table × OnlySettings (settings_of
+            self.old.table) self.old.table self.new.table }
+        ensures contents { KeepsContents self.old self.new }
+    {
+        self.table.renew_layout()
     }
 
     /// Reserves memory in the table for `many` more sets.
@@ -156,7 +168,7 @@ impl<L: Drop, P: Drop, S: Drop, D: DescriptorDevice<L, P, S>> Store<L, P, S, D> 
 
     /// How many sets of a layout are kept.
     pub(crate) fn kept_count(&self, layout: u32) -> u32
-        requires { HasLayout layout self.now }
+        requires { HasLayout layout self.now.table }
         ensures count { result ≡ kept_of layout self.now }
         ensures few { result ≤ self.now.table.keep }
     {

@@ -6,7 +6,7 @@ use Rattle.std.proofs.lemmas.List.{get_or-set_same, length-set}
 use Rattle.std.proofs.lemmas.Bool.{false≢true, true≢false}
 use Rattle.descriptor_table.specs.Places.{walk}
 use Rattle.descriptor_table.specs.Slots.{AreLinked, HasLists, IsListed, IsNowhere, Lists, Slot, chain_at, frame_of, in_list, is_in, is_live, slot_at, waits, waits_for}
-use Rattle.descriptor_table.specs.Tables.{is_held_use, is_kept, used_for}
+use Rattle.descriptor_table.specs.Tables.{is_held_use}
 use Rattle.descriptor_table.specs.declared.slot.Use.{Use}
 use Rattle.descriptor_table.specs.declared.slot.Use.TheVariants.{Held, Taken}
 use Rattle.descriptor_table.specs.declared.slot.Chain.{Chain}
@@ -41,10 +41,6 @@ module _ {T : Type 0} where
   pub live_no_list : (s : Slot T) → is_live (frame_of s.used) true s.used ≡ true → (k : ℕ) → is_in k s ≡ false
   live_no_list s e k = search rules
 
-  -- nor is a set kept that is in no list
-  pub waits_unkept : (s : Slot T) {X : Type 0} → waits s ≡ true → is_kept s ≡ true → X
-  waits_unkept s waiting kept = absurd (true≢false (sym kept ∙ waits_no_list s waiting (s.layout + 2)))
-
   -- a set in such a use is in no list, and waits for no frame
   pub nowhere_out : (s : Slot T) → IsNowhere s.used → (waits s ≡ false) × ((k : ℕ) → is_in k s ≡ false)
   nowhere_out s n = search rules
@@ -52,9 +48,6 @@ module _ {T : Type 0} where
   -- a held set is in no list
   pub held_nowhere : (s : Slot T) (k : ℕ) → is_in k s ≡ true → s.used ≢ Held
   held_nowhere s k e held = true≢false (sym e ∙ ap (λ u. in_list k u s.layout s.generation (is_some s.set)) held)
-
-  pub taken_unkept : (s : Slot T) {X : Type 0} → is_kept (used_for Taken s) ≡ true → X
-  taken_unkept s kept = absurd (false≢true kept)
 
   pub taken_no_list : (s : Slot T) → s.used ≡ Taken → (k : ℕ) → is_in k s ≡ false
   taken_no_list s e k = ap (λ u. in_list k u s.layout s.generation (is_some s.set)) e
@@ -68,8 +61,8 @@ few_set max chains k c few within le j two = grind (arith, common_steps, length-
 
 module _ {T : Type 0} where
   -- one slot changed
-  pub lists_set : (slots : List (Slot T)) (p : ℕ) (s : Slot T) (lists : ℕ) (generations : ℕ → ℕ) → HasLists slots lists generations → p < length slots → IsListed lists generations s → HasLists (set slots p s) lists generations
-  lists_set slots p s lists generations known within here q lt = grind (arith, common_steps, length-set)
+  pub lists_set : (slots : List (Slot T)) (p : ℕ) (s : Slot T) (layouts : ℕ) → HasLists slots layouts → p < length slots → IsListed layouts s → HasLists (set slots p s) layouts
+  lists_set slots p s layouts known within here q lt = grind (arith, common_steps, length-set)
 
 module _ {T : Type 0} (slots : List (Slot T)) (next : List ℕ) (chains : List Chain) (h : AreLinked slots next chains) where
   -- the places of a list
@@ -92,6 +85,10 @@ module _ {T : Type 0} (slots : List (Slot T)) (next : List ℕ) (chains : List C
   -- one list changed
   chain_changed : (slots' : List (Slot T)) (next' : List ℕ) (k : ℕ) (d : Chain) → k < length chains → Lists (is_in k) slots' (walk d.count next' d.first) → ((j : ℕ) → j ≢ k → Lists (is_in j) slots' (walk (chain_at chains j).count next' (chain_at chains j).first)) → AreLinked slots' next' (set chains k d)
   chain_changed slots' next' k d within here others j = grind (arith, common_steps)
+
+  -- a list without slots became another one
+  pub empty_linked : (k : ℕ) (c : Chain) → (chain_at chains k).count ≡ 0 → c.count ≡ 0 → k < length chains → AreLinked slots next (set chains k c)
+  empty_linked k c none empty there = chain_changed slots next k c there (grind (arith, common_steps, h k)) (λ j ne. h j)
 
   module _ (k : ℕ) (c : Chain) (is : chain_at chains k ≡ c) where
     -- a list that isn't empty is its first place, and then what begins with the next of that

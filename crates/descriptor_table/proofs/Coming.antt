@@ -23,5 +23,5 @@ module _ {T : Type 0} (weight : T → ℕ) where
   got (z ∷ l) (y ∷ m) zero x none here others = omega (arith, tally_joined weight y.set (sets_in m), tally_joined weight z.set (sets_in l), ap (weight_of weight) here, ap (weight_of weight) none, alike l m (λ q. others (suc q) (λ e. omega arith)))
   got (z ∷ l) (y ∷ m) (suc p) x none here others = omega (arith, tally_joined weight y.set (sets_in m), tally_joined weight z.set (sets_in l), ap (weight_of weight) (others 0 (λ e. omega arith)), got l m p x none here (λ q ne. others (suc q) (λ e. ne (omega arith))))
 
-  pub put_weigh : (generations : ℕ → ℕ) (layout p : ℕ) (x : T) (old new : List (Slot T)) → Puts generations layout x p old new → tally weight (sets_in new) ≡ tally weight (sets_in old) + weight x
-  put_weigh generations layout p x old new puts = got old new p x puts.empty (ap (λ (s : Slot T). s.set) puts.here) (λ q ne. ap (λ (s : Slot T). s.set) (puts.others q ne))
+  pub put_weigh : (layout p : ℕ) (x : T) (old new : List (Slot T)) → Puts layout x p old new → tally weight (sets_in new) ≡ tally weight (sets_in old) + weight x
+  put_weigh layout p x old new puts = got old new p x puts.empty (ap (λ (s : Slot T). s.set) puts.here) (λ q ne. ap (λ (s : Slot T). s.set) (puts.others q ne))

@@ -1,11 +1,16 @@
 -- How many slots pass a test, when one of them changes, and that a list counts them: for the counts that `SetTable` returns.
 use Rattle.std.proofs.lemmas.Grind.{common_steps}
-use Rattle.std.proofs.Common.{◌≡◌, ℕ, zero, suc, ◌+◌, ◌<◌, ◌≤◌, Bool, false, if◌then◌else◌, List, [], ◌∷◌, length, set, refl, ap, ◌∙◌, arith, rules, sym}
+use Rattle.std.proofs.Common.{◌≡◌, ℕ, zero, suc, ◌+◌, ◌<◌, ◌≤◌, Bool, true, false, inl, inr, if◌then◌else◌, List, [], ◌∷◌, length, set, refl, ap, ◌∙◌, arith, rules, sym}
 use Rattle.descriptor_table.specs.Places.{walk}
-use Rattle.descriptor_table.specs.Slots.{AreLinked, Lists, chain_at, is_in, no_slot, slot_at}
-use Rattle.descriptor_table.specs.Tables.{count}
+use Rattle.descriptor_table.specs.Slots.{AreLinked, Lists, chain_at, count, is_in, is_kept_of, nexts_in, no_slot, shown, slot_at}
+use Rattle.descriptor_table.specs.Tables.{chains_of, removed_of, slots_of}
+use Rattle.descriptor_table.specs.declared.set_table.SetTable.{SetTable}
+use Rattle.descriptor_table.proofs.Entries.{chain_was, shown_same}
+use Rattle.descriptor_table.specs.Tables.{}
 use Rattle.descriptor_table.specs.Slots.{Slot}
 use Rattle.descriptor_table.specs.declared.slot.Chain.{Chain}
+use Rattle.std.proofs.lemmas.Bool.{true≢false}
+use Rattle.descriptor_table.proofs.Counting.{same_or}
 use Rattle.descriptor_table.proofs.Listed.{walk_length, first_passes, one_none, test_within, lists_pop}
 
 -- 1 if the test holds
@@ -39,6 +44,11 @@ module _ {T : Type 0} where
   count_few test [] = omega arith
   count_few test (s ∷ slots) = let b = bit_few (test s) in let h = count_few test slots in omega arith
 
+  pub count_less : (test : Slot T → Bool) (slots : List (Slot T)) (p : ℕ) → p < length slots → test (slot_at slots p) ≡ false → count test slots < length slots
+  count_less test [] p within out = absurd (omega arith)
+  count_less test (s ∷ slots) zero within out = let e = ap bit out in let h = count_few test slots in omega arith
+  count_less test (s ∷ slots) (suc p) within out = let b = bit_few (test s) in let h = count_less test slots p (omega arith) out in omega arith
+
   pub none_count : (test : Slot T → Bool) (slots : List (Slot T)) → ((p : ℕ) → test (slot_at slots p) ≡ false) → count test slots ≡ 0
   none_count test [] none = refl
   none_count test (s ∷ slots) none = ap (λ b. (if b then 1 else 0) + count test slots) (none 0) ∙ (let h = none_count test slots (λ p. none (suc p)) in omega arith)
@@ -64,3 +74,25 @@ module _ {T : Type 0} where
     where
       few : (b : Bool) → 0 ≤ bit b
       few x0 = grind (arith, common_steps)
+
+  -- some count, if one passes the test
+  pub some_count : (test : Slot T → Bool) (slots : List (Slot T)) (p : ℕ) → test no_slot ≡ false → test (slot_at slots p) ≡ true → 0 < count test slots
+  some_count test slots p none is = elim (same_or (count test slots) 0) [
+    | inl e ↦ absurd (true≢false (sym is ∙ count_none test slots none e p))
+    | inr ne ↦ omega arith
+  ]
+
+-- how many slots a table's lists have
+module _ {T : Type 0} (t : SetTable T) where
+  pub vacant_count : t.vacant.count ≡ count (is_in 0) (slots_of t)
+  vacant_count = chain_count (slots_of t) (nexts_in t.slots) (chains_of t) t.sound.linked 0
+
+  pub going_count : t.going.count ≡ count (is_in 1) (slots_of t)
+  going_count = chain_count (slots_of t) (nexts_in t.slots) (chains_of t) t.sound.linked 1
+
+  pub kept_counts : (layout : ℕ) → (shown (chain_at t.kept.items layout)).count ≡ count (is_kept_of layout) (slots_of t)
+  kept_counts layout = ap (λ (c : Chain). c.count) (sym (chain_was t.vacant t.going t.kept.items layout)) ∙ chain_count (slots_of t) (nexts_in t.slots) (chains_of t) t.sound.linked (layout + 2)
+
+  -- of a layout that is there
+  pub there_counts : (layout : ℕ) → removed_of t layout ≡ false → (chain_at t.kept.items layout).count ≡ count (is_kept_of layout) (slots_of t)
+  there_counts layout there = ap (λ (c : Chain). c.count) (sym (shown_same (chain_at t.kept.items layout) there)) ∙ kept_counts layout

@@ -1,11 +1,11 @@
 -- The lists of slots, when a slot without a set comes at the end: for `SetTable::add_place`.
 use Rattle.std.proofs.lemmas.Grind.{common_steps}
-use Rattle.std.proofs.Common.{◌≡◌, ℕ, zero, suc, ◌+◌, Bool, true, if◌then◌else◌, List, [], ◌∷◌, ◌++◌, length, get_or, set, refl, sym, ap, subst, ◌∙◌, arith, rules}
+use Rattle.std.proofs.Common.{◌≡◌, ℕ, zero, suc, ◌+◌, Bool, true, if◌then◌else◌, List, [], ◌∷◌, ◌++◌, length, get_or, set, refl, sym, ap, ◌∙◌, arith, rules}
 use Rattle.std.proofs.Math.Seq.{get_or-append_seam, set-append_seam}
 use Rattle.std.proofs.lemmas.List.{get_or_append_left, length_push}
 use Rattle.descriptor_table.specs.Places.{times, walk}
-use Rattle.descriptor_table.specs.Slots.{AreLinked, HasLists, IsListed, IsQueue, Slot, chain_at, filled, frame_of, is_in, no_slot, slot_at, waits}
-use Rattle.descriptor_table.specs.Tables.{Settings, AreAllUsed, At, Changes, HasRoom, Puts, count, generations_of, is_usable, slots_of, used_for}
+use Rattle.descriptor_table.specs.Slots.{AreLinked, HasLists, IsListed, IsQueue, Slot, chain_at, count, filled, frame_of, is_in, no_slot, slot_at, waits}
+use Rattle.descriptor_table.specs.Tables.{AreAllUsed, At, Changes, HasRoom, Puts, is_usable, slots_of, used_for}
 use Rattle.descriptor_table.specs.declared.set_table.SetTable.{SetTable}
 use Rattle.descriptor_table.specs.declared.slot.Use.TheVariants.{Taken, Vacant}
 use Rattle.descriptor_table.specs.declared.slot.Chain.{Chain}
@@ -25,6 +25,13 @@ walk_grown : (n : ℕ) (next : List ℕ) (first : ℕ) → walk n (next ++ 0 ∷
 walk_grown zero next first = refl
 walk_grown (suc n) next first = ap (λ y. first ∷ walk n (next ++ 0 ∷ []) y) (next_grown next first) ∙ ap (λ l. first ∷ l) (walk_grown n next (get_or next first 0))
 
+-- a list without slots at the end shows as the one past the end
+pub chain_grown : (chains : List Chain) (k : ℕ) → chain_at (chains ++ record { first = 0; count = 0 } ∷ []) k ≡ chain_at chains k
+chain_grown [] zero = refl
+chain_grown [] (suc k) = refl
+chain_grown (c ∷ chains) zero = refl
+chain_grown (c ∷ chains) (suc k) = chain_grown chains k
+
 module _ {T : Type 0} where
   -- what `f` says of each place stays, if it says of the slot at the end what it says of the slot past the end
   grown : {X : Type 0} (f : Slot T → X) (slots : List (Slot T)) (s : Slot T) (q : ℕ) → f s ≡ f no_slot → f (slot_at (slots ++ s ∷ []) q) ≡ f (slot_at slots q)
@@ -41,8 +48,8 @@ module _ {T : Type 0} where
   queue_grown slots l newest s taken h = search (rules, taken_out, grown waits, grown (λ (s : Slot T). frame_of s.used))
 
   -- the layout of each slot has its list, also that of the new slot
-  pub known_grown : (slots : List (Slot T)) (s : Slot T) (lists : ℕ) (generations : ℕ → ℕ) → IsListed lists generations s → HasLists slots lists generations → length (slots ++ s ∷ []) ≡ length slots + 1 → HasLists (slots ++ s ∷ []) lists generations
-  known_grown slots s lists generations here known long q within = grind (arith, common_steps, same_or)
+  pub known_grown : (slots : List (Slot T)) (s : Slot T) (layouts : ℕ) → IsListed layouts s → HasLists slots layouts → length (slots ++ s ∷ []) ≡ length slots + 1 → HasLists (slots ++ s ∷ []) layouts
+  known_grown slots s layouts here known long q within = grind (arith, common_steps, same_or)
 
   -- what a slot at the end counts
   pub count_grown : (test : Slot T → Bool) (slots : List (Slot T)) (s : Slot T) → count test (slots ++ s ∷ []) ≡ count test slots + (if test s then 1 else 0)
@@ -53,20 +60,18 @@ module _ {T : Type 0} where
   last_place : (slots : List (Slot T)) (s : Slot T) (p : ℕ) → AreAllUsed slots → is_usable (slot_at (slots ++ s ∷ []) p) ≡ true → p ≡ length slots
   last_place slots s p full usable = grind (arith, common_steps, get_or_append_left slots (s ∷ []) no_slot p, length_push, test_within is_usable (slots ++ s ∷ []) p refl usable, full p)
 
-  puts_end : (generations : ℕ → ℕ) (layout : ℕ) (x : T) (p : ℕ) (old mid : List (Slot T)) → AreAllUsed old → p ≡ length old → mid ≡ old ++ filled layout (generations layout) x no_slot ∷ [] → Puts generations layout x p old mid
-  puts_end generations layout x p old mid full at is = grind (arith, common_steps)
+  pub puts_end : (layout : ℕ) (x : T) (p : ℕ) (old mid : List (Slot T)) → p ≡ length old → mid ≡ old ++ filled layout x no_slot ∷ [] → Puts layout x p old mid
+  puts_end layout x p old mid at is = grind (arith, common_steps)
 
   module _ (a b : SetTable T) (none : count is_usable (slots_of a) ≡ 0) (grows : Changes (λ old new. new ≡ old ++ used_for Vacant no_slot ∷ []) a b) where
     -- a set came to it
-    pub puts_last : (layout : ℕ) (x : T) (p : ℕ) (mid : List (Slot T)) → is_usable (slot_at (slots_of b) p) ≡ true → At p (filled layout (generations_of b layout) x) (slots_of b) mid → Puts (generations_of a) layout x p (slots_of a) mid
+    pub puts_last : (layout : ℕ) (x : T) (p : ℕ) (mid : List (Slot T)) → is_usable (slot_at (slots_of b) p) ≡ true → At p (filled layout x) (slots_of b) mid → Puts layout x p (slots_of a) mid
     puts_last layout x p mid usable is =
         let l = slots_of a in
         let last : Slot T = used_for Vacant no_slot in
-        let full = count_none is_usable l refl none in
-        let at = last_place l last p full (ap (λ m. is_usable (slot_at m p)) (sym grows.slots) ∙ usable) in
-        let into = λ (m : List (Slot T)) (q : ℕ). set m q (filled layout (generations_of b layout) x (slot_at m q)) in
-        let made = is ∙ ap (λ m. into m p) grows.slots ∙ ap (into (l ++ last ∷ [])) at ∙ set-append_seam l last [] _ ∙ ap (λ s. l ++ filled layout (generations_of b layout) x s ∷ []) (get_or-append_seam l last [] no_slot) in
-        subst (λ generations. Puts generations layout x p l mid) (ap (λ (s : Settings). s.generations) grows.stays.settings) (puts_end (generations_of b) layout x p l mid full at made)
+        let at = last_place l last p (count_none is_usable l refl none) (ap (λ m. is_usable (slot_at m p)) (sym grows.slots) ∙ usable) in
+        let into = λ (m : List (Slot T)) (q : ℕ). set m q (filled layout x (slot_at m q)) in
+        puts_end layout x p l mid at (is ∙ ap (λ m. into m p) grows.slots ∙ ap (into (l ++ last ∷ [])) at ∙ set-append_seam l last [] _ ∙ ap (λ s. l ++ filled layout x s ∷ []) (get_or-append_seam l last [] no_slot))
 
     -- and there is room for as many sets as before
     pub room_grown : (n : ℕ) → HasRoom (n + 1) a → HasRoom (n + 1) b

@@ -161,10 +161,10 @@ module _ {T : Type 0} where
   taken_not_held l o x is held = true≢false (ap is_held_use (sym held ∙ ap (λ (s : Slot T). s.used) is))
 
   -- sets that a call took, and then settled
-  pub taken_settled : (handles : List SetHandle) (generations : ℕ → ℕ) (max : ℕ) (old mid new : List (Slot T)) → TurnEach handles (Becomes (used_for Taken)) old mid → TurnEach handles (IsBack (used_for Going) generations max) mid new → TurnEach handles (IsBack (used_for Going) generations max) old new
-  taken_settled handles generations max old mid new took back = record {
+  pub taken_settled : (handles : List SetHandle) (removed : ℕ → Bool) (max : ℕ) (old mid new : List (Slot T)) → TurnEach handles (Becomes (used_for Taken)) old mid → TurnEach handles (IsBack (used_for Going) removed max) mid new → TurnEach handles (IsBack (used_for Going) removed max) old new
+  taken_settled handles removed max old mid new took back = record {
     long = back.long ∙ took.long;
-    named = λ i lt. subst (λ o. IsBack (used_for Going) generations max new o (slot_at new (place_at handles i))) (took.named i lt) (back.named i lt);
+    named = λ i lt. subst (λ o. IsBack (used_for Going) removed max new o (slot_at new (place_at handles i))) (took.named i lt) (back.named i lt);
     rest = λ p none. back.rest p none ∙ took.rest p none;
   }
 

@@ -11,8 +11,10 @@ pub mod Listed
 pub mod Named
 pub mod Names
 pub mod Naming
+pub mod Numbers
 pub mod Renewing
 pub mod Sound
 pub mod Totals
 pub mod Turning
 pub mod Waiting
+pub mod Writing

@@ -56,8 +56,8 @@ module _ {T : Type 0} where
     abbrev handle_at : ℕ → SetHandle
     handle_at i = slice_index_or handles i zero_handle
 
-    generations : (p : ℕ) → (slot_at new p).generation ≡ (slot_at old p).generation
-    generations p = search (rules, named_or)
+    removed : (p : ℕ) → (slot_at new p).generation ≡ (slot_at old p).generation
+    removed p = search (rules, named_or)
 
     -- a handle that isn't in the list is not the last one of a place of the list, since that of the list is
     not_last : (other : SetHandle) → ((i : ℕ) (e : SetHandle) → i < length handles → slice_index_or handles i e ≢ other) → (i : ℕ) → i < length handles → place_at handles i ≡ other.place → (b : Bool) → is_last number old other ≡ b → b ≡ false
@@ -70,6 +70,6 @@ module _ {T : Type 0} where
     pub names_lost : LoseNames handles (sets_of number frame opened old) (sets_of number frame opened new)
     names_lost = record {
       gone = search (rules, if_neither, same_default);
-      others = λ other apart. search (rules, generations, if_not, named_or, not_last);
-      given = λ h. ap (λ g. (h.manager == number) && (nat_lt 0 h.generation && nat_le h.generation g)) (generations h.place);
+      others = λ other apart. search (rules, removed, if_not, named_or, not_last);
+      given = λ h. ap (λ g. (h.manager == number) && (nat_lt 0 h.generation && nat_le h.generation g)) (removed h.place);
     }

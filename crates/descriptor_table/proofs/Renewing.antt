@@ -4,8 +4,8 @@ use Rattle.std.proofs.lemmas.Grind.{common_steps}
 use Rattle.std.proofs.Common.{◌≡◌, ◌≢◌, ℕ, ◌+◌, ◌<◌, ◌≤◌, Bool, true, false, List, length, set, Option, None, is_some, refl, arith, rules}
 use Rattle.std.proofs.lemmas.List.{length-set, set-set}
 use Rattle.std.proofs.lemmas.Bool.{false≢true}
-use Rattle.descriptor_table.specs.Slots.{filled, is_in, slot_at}
-use Rattle.descriptor_table.specs.Tables.{At, GivesAny, HasRoom, Picks, Puts, Stays, count, is_usable, slots_of, used_for, vacated}
+use Rattle.descriptor_table.specs.Slots.{count, filled, is_in, slot_at}
+use Rattle.descriptor_table.specs.Tables.{At, GivesAny, HasRoom, Picks, Puts, Stays, is_usable, slots_of, used_for, vacated}
 use Rattle.descriptor_table.specs.declared.set_table.SetTable.{SetTable}
 use Rattle.descriptor_table.specs.declared.slot.Use.TheVariants.{Taken}
 use Rattle.descriptor_table.specs.Slots.{Slot}
@@ -19,8 +19,8 @@ module _ {T : Type 0} where
   vacant_is s e = search rules
 
   -- a set came to a vacant slot
-  pub puts_there : (generations : ℕ → ℕ) (layout : ℕ) (x : T) (p : ℕ) (old mid : List (Slot T)) → is_usable (slot_at old p) ≡ true → At p (filled layout (generations layout) x) old mid → Puts generations layout x p old mid
-  puts_there generations layout x p old mid usable is = grind (arith, common_steps, length-set, other_slots, slot_set, vacant_is, test_within is_usable old p refl usable)
+  pub puts_there : (layout : ℕ) (x : T) (p : ℕ) (old mid : List (Slot T)) → is_usable (slot_at old p) ≡ true → At p (filled layout x) old mid → Puts layout x p old mid
+  puts_there layout x p old mid usable is = grind (arith, common_steps, length-set, other_slots, slot_set, vacant_is, test_within is_usable old p refl usable)
 
   -- there is room for as many sets if as many slots are usable, and nothing else changed
   pub room_stays : (n : ℕ) (a b : SetTable T) → Stays a b → length (slots_of b) ≡ length (slots_of a) → count is_usable (slots_of b) ≡ count is_usable (slots_of a) → HasRoom n a → HasRoom n b

@@ -2,11 +2,11 @@
 -- `old` are the slots before a loop, `now` those before a step of it, `new` those after; `Turning` is the loop's invariant, and `Turns`
 -- what it leaves at its end. A set that is freed *settles*: it is kept, or goes. `o` is a slot before that, `n` the same slot after.
 use Rattle.std.proofs.lemmas.Grind.{common_steps}
-use Rattle.std.proofs.Common.{◌≡◌, ◌≢◌, ℕ, zero, suc, ◌+◌, ◌<◌, ◌≤◌, ◌⊎◌, ◌==◌, ◌&&◌, nat_lt, Bool, true, false, if◌then◌else◌, List, [], ◌∷◌, length, set, eq-eqb, ne_eqb, is_some, inl, inr, refl, sym, ap, ◌∙◌, arith, nat_le, rules}
+use Rattle.std.proofs.Common.{◌≡◌, ◌≢◌, ℕ, zero, suc, ◌+◌, ◌<◌, ◌≤◌, ◌⊎◌, ◌&&◌, nat_lt, Bool, true, false, if◌then◌else◌, List, [], ◌∷◌, length, set, eq-eqb, ne_eqb, is_some, inl, inr, refl, sym, ap, ◌∙◌, arith, nat_le, rules, not}
 use Rattle.std.proofs.lemmas.List.{length-set, set-set}
 use Rattle.std.proofs.lemmas.Bool.{false≢true, ltb-false, true≢false}
-use Rattle.descriptor_table.specs.Slots.{IsNowhere, Slot, is_due, is_in, slot_at, waits_for}
-use Rattle.descriptor_table.specs.Tables.{Settings, CanBeHeld, IsBack, MayBecome, Picks, Stays, Turns, count, generations_of, holds, is_held_use, is_kept, next_use, used_for, Becomes, settings_of}
+use Rattle.descriptor_table.specs.Slots.{IsNowhere, Slot, count, is_due, is_in, slot_at, waits_for}
+use Rattle.descriptor_table.specs.Tables.{Settings, CanBeHeld, IsBack, MayBecome, Picks, Stays, Turns, removed_of, holds, is_held_use, is_kept, next_use, used_for, Becomes, settings_of}
 use Rattle.descriptor_table.specs.declared.set_table.SetTable.{SetTable}
 use Rattle.descriptor_table.specs.declared.slot.Use.{Use}
 use Rattle.descriptor_table.specs.declared.slot.Use.TheVariants.{Held, Going, Taken}
@@ -42,35 +42,35 @@ module _ {T : Type 0} where
     turn_end old now turning none = search (rules, true≢false)
 
   -- a set of a slot that is in no list settled
-  module _ (generations : ℕ → ℕ) (max : ℕ) (now mid new : List (Slot T)) (p : ℕ) (within : p < length now) (out : (k : ℕ) → is_in k (slot_at now p) ≡ false) (u : Use) (idle : IsNowhere u) (left : mid ≡ with_use p u now) (is : new ≡ with_use p (next_use generations max mid p) mid) where
+  module _ (removed : ℕ → Bool) (max : ℕ) (now mid new : List (Slot T)) (p : ℕ) (within : p < length now) (out : (k : ℕ) → is_in k (slot_at now p) ≡ false) (u : Use) (idle : IsNowhere u) (left : mid ≡ with_use p u now) (is : new ≡ with_use p (next_use removed max mid p) mid) where
     -- only the use of its slot changed
-    pub settled_set : new ≡ set now p (used_for (next_use generations max mid p) (slot_at now p))
-    settled_set = is ∙ ap (λ l. with_use p (next_use generations max mid p) l) left ∙ use_again now p u (next_use generations max mid p) within
+    pub settled_set : new ≡ set now p (used_for (next_use removed max mid p) (slot_at now p))
+    settled_set = is ∙ ap (λ l. with_use p (next_use removed max mid p) l) left ∙ use_again now p u (next_use removed max mid p) within
 
     -- of sets that settled before it `IsBack` still holds, as no fewer sets of any layout are kept than then
-    pub settled_grows : (o n : Slot T) → IsBack (used_for Going) generations max now o n → IsBack (used_for Going) generations max new o n
+    pub settled_grows : (o n : Slot T) → IsBack (used_for Going) removed max now o n → IsBack (used_for Going) removed max new o n
     settled_grows o n x2 = search (rules, count_set, settled_set)
 
     -- it is kept if it may be, and else goes
-    pub settled_here : IsBack (used_for Going) generations max new (slot_at now p) (used_for (next_use generations max mid p) (slot_at now p))
+    pub settled_here : IsBack (used_for Going) removed max new (slot_at now p) (used_for (next_use removed max mid p) (slot_at now p))
     settled_here = search (rules, and_true, count_set, ltb-false, nowhere_out, same_count, settled_set, slot_set)
 
   -- a set that settled waits no longer, and isn't held
-  pub settled_not_due : (generations : ℕ → ℕ) (frame max : ℕ) (l : List (Slot T)) (o n : Slot T) → IsBack (used_for Going) generations max l o n → is_due frame n ≡ false
-  settled_not_due generations frame max l o n x6 = grind (arith, common_steps)
+  pub settled_not_due : (removed : ℕ → Bool) (frame max : ℕ) (l : List (Slot T)) (o n : Slot T) → IsBack (used_for Going) removed max l o n → is_due frame n ≡ false
+  settled_not_due removed frame max l o n x6 = grind (arith, common_steps)
 
-  pub settled_not_held : (generations : ℕ → ℕ) (max : ℕ) (l : List (Slot T)) (o n : Slot T) → IsBack (used_for Going) generations max l o n → n.used ≢ Held
-  settled_not_held generations max l o n x5 held = search (rules, false≢true)
+  pub settled_not_held : (removed : ℕ → Bool) (max : ℕ) (l : List (Slot T)) (o n : Slot T) → IsBack (used_for Going) removed max l o n → n.used ≢ Held
+  settled_not_held removed max l o n x5 held = search (rules, false≢true)
 
   -- only its use changed, and it can be held again
-  pub back_only : (generations : ℕ → ℕ) (max : ℕ) (l : List (Slot T)) (o x : Slot T) → holds o ≡ true → IsBack (used_for Going) generations max l o x → (x ≡ used_for x.used o) × CanBeHeld x
-  back_only generations max l o x held (inl kept) =
+  pub back_only : (removed : ℕ → Bool) (max : ℕ) (l : List (Slot T)) (o x : Slot T) → holds o ≡ true → IsBack (used_for Going) removed max l o x → (x ≡ used_for x.used o) × CanBeHeld x
+  back_only removed max l o x held (inl kept) =
       let full = (and_true (is_held_use o.used) (is_some o.set) held).1 in
-      let young = (and_true (nat_lt o.generation 4294967295) (nat_lt o.generation o.kept_below) (and_true (nat_lt o.generation 4294967295 && nat_lt o.generation o.kept_below) (o.layout_generation == generations o.layout) kept.1).0).0 in (
+      let young = (and_true (nat_lt o.generation 4294967295) (nat_lt o.generation o.kept_below) (and_true (nat_lt o.generation 4294967295 && nat_lt o.generation o.kept_below) (not (removed o.layout)) kept.1).0).0 in (
         kept.0 ∙ ap (λ u. used_for u o) (sym (ap (λ (s : Slot T). s.used) kept.0)),
         (ap (λ (s : Slot T). is_some s.set) kept.0 ∙ full, inr (o.layout + 2, λ e. omega arith, ap (is_in (o.layout + 2)) kept.0 ∙ ap (λ b. b && (nat_lt o.generation 4294967295 && is_some o.set)) (eq-eqb (o.layout + 2) (o.layout + 2) refl) ∙ ap (λ b. b && is_some o.set) young ∙ full)),
       )
-  back_only generations max l o x held (inr goes) = (let full = (and_true (is_held_use o.used) (is_some o.set) held).1 in (goes.0 ∙ ap (λ u. used_for u o) (sym (ap (λ (s : Slot T). s.used) goes.0)), (ap (λ (s : Slot T). is_some s.set) goes.0 ∙ full, inr (1, λ e. omega arith, ap (is_in 1) goes.0 ∙ full))))
+  back_only removed max l o x held (inr goes) = (let full = (and_true (is_held_use o.used) (is_some o.set) held).1 in (goes.0 ∙ ap (λ u. used_for u o) (sym (ap (λ (s : Slot T). s.used) goes.0)), (ap (λ (s : Slot T). is_some s.set) goes.0 ∙ full, inr (1, λ e. omega arith, ap (is_in 1) goes.0 ∙ full))))
 
   -- a set that waits, or that a call has, is in no list
   pub due_not_listed : (frame : ℕ) (s : Slot T) → is_due frame s ≡ true → (k : ℕ) → is_in k s ≡ false
@@ -89,8 +89,8 @@ module _ {T : Type 0} where
   stays_more a b c one two = search rules
 
   -- with settings as they were, a freed set comes to the same use
-  pub same_next : (a b : SetTable T) → settings_of b ≡ settings_of a → (slots : List (Slot T)) (p : ℕ) → next_use (generations_of b) b.keep slots p ≡ next_use (generations_of a) a.keep slots p
-  same_next a b same slots p = ap (λ (s : Settings). next_use s.generations s.keep slots p) same
+  pub same_next : (a b : SetTable T) → settings_of b ≡ settings_of a → (slots : List (Slot T)) (p : ℕ) → next_use (removed_of b) b.keep slots p ≡ next_use (removed_of a) a.keep slots p
+  same_next a b same slots p = ap (λ (s : Settings). next_use s.removed s.keep slots p) same
 
   -- a slot that passed the test doesn't any more
   pub one_less : (test : Slot T → Bool) (now new : List (Slot T)) (p : ℕ) (s : Slot T) → p < length now → test (slot_at now p) ≡ true → test s ≡ false → new ≡ set now p s → count test new + 1 ≡ count test now

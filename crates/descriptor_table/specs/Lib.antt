@@ -1,5 +1,7 @@
 pub mod Giving
+pub mod Handles
 pub mod Places
 pub mod Sets
 pub mod Slots
 pub mod Tables
+pub mod Users

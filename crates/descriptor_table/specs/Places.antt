@@ -1,5 +1,5 @@
--- Lists of places.
-use Rattle.std.specs.Prelude.{ℕ, zero, suc, ◌+◌, ◌==◌, List, [], ◌∷◌, slice_index, if◌then◌else◌}
+-- Lists of places, and of the numbers of layouts.
+use Rattle.std.specs.Prelude.{◌≡◌, ℕ, zero, suc, ◌+◌, ◌==◌, List, [], ◌∷◌, slice_index, slice_index_or, if◌then◌else◌}
 
 -- how often a place is in a list
 abbrev pub times : ℕ → List ℕ → ℕ
@@ -10,3 +10,11 @@ times p (q ∷ l) = (if p == q then 1 else 0) + times p l
 abbrev pub walk : ℕ → List ℕ → ℕ → List ℕ
 walk zero next first = []
 walk (suc n) next first = first ∷ walk n next (slice_index next first)
+
+-- how many users a layout has, by its number: none is free past the last one
+abbrev pub users_at : List ℕ → ℕ → ℕ
+users_at counts layout = slice_index_or counts layout 1
+
+-- the list has each number without users once, and no other
+abbrev pub AreFree : List ℕ → List ℕ → Type 0
+AreFree free counts = (layout : ℕ) → times layout free ≡ (if users_at counts layout == 0 then 1 else 0)

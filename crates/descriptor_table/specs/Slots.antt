@@ -1,7 +1,7 @@
 -- Slots, and the lists that they are in.
-use Rattle.std.specs.Prelude.{map, slice_set, vec_capacity, Option, Some, ◌≡◌, ℕ, ◌+◌, ◌<◌, ◌≤◌, ◌==◌, ◌&&◌, nat_le, nat_lt, Bool, true, false, List, length, ⊤, slice_index_or, if◌then◌else◌, None, is_some, not}
+use Rattle.std.specs.Prelude.{map, slice_set, vec_capacity, Option, Some, ◌≡◌, ℕ, ◌+◌, ◌<◌, ◌≤◌, ◌==◌, ◌&&◌, nat_le, nat_lt, Bool, true, false, List, [], ◌∷◌, length, ⊤, slice_index_or, if◌then◌else◌, None, is_some, not}
 use Rattle.std.specs.List.Sorted.{IsNonDecreasingBy}
-use Rattle.descriptor_table.specs.Places.{times, walk}
+use Rattle.descriptor_table.specs.Places.{times, users_at, walk}
 use Rattle.descriptor_table.specs.declared.slot.Use.{Use}
 use Rattle.descriptor_table.specs.declared.slot.Use.TheVariants.{Held, InFrame, Waits, Kept, Going, Taken, Vacant}
 use Rattle.descriptor_table.specs.declared.slot.State.{State}
@@ -9,15 +9,12 @@ use Rattle.descriptor_table.specs.declared.slot.State.TheVariants as state
 use Rattle.descriptor_table.specs.declared.slot_list.Entry.{Entry}
 use Rattle.descriptor_table.specs.declared.slot_list.SlotList.{SlotList}
 use Rattle.descriptor_table.specs.declared.slot.Chain.{Chain}
-use Rattle.descriptor_table.specs.declared.slot.ListHead.{ListHead}
 
 -- a place for a set
 pub record Slot (T : Type 0) : Type 0 where
   -- how many handles were given for it
   pub generation : ℕ
   pub layout : ℕ
-  -- how many layouts had this number before the set's layout
-  pub layout_generation : ℕ
   pub used : Use
   -- below this generation the set may be kept once it is freed: 0 if it was there at the last cleanup
   pub kept_below : ℕ
@@ -68,16 +65,20 @@ IsNowhere _ = ⊥
 abbrev pub chain_at : List Chain → ℕ → Chain
 chain_at chains k = slice_index_or chains k (record { first = 0; count = 0 })
 
--- how many layouts of the number were removed, by a table's generations of its lists
-abbrev pub generation_at : List ℕ → ℕ → ℕ
-generation_at generations layout = slice_index_or generations (layout + 2) 0
+-- whether a list is that of a removed layout, which shows as empty
+abbrev pub is_removed : Chain → Bool
+is_removed c = c.count == 4294967295
 
--- the lists without their generations, and their generations
-abbrev pub chains_in : List ListHead → List Chain
-chains_in lists = map (λ h. h.chain) lists
+abbrev pub shown : Chain → Chain
+shown c = if is_removed c then record { first = 0; count = 0 } else c
 
-abbrev pub generations_in : List ListHead → List ℕ
-generations_in lists = map (λ h. h.generation) lists
+-- whether the layout of a number was removed, by the lists of kept sets
+abbrev pub removed_by : List Chain → ℕ → Bool
+removed_by kept layout = is_removed (chain_at kept layout)
+
+-- all lists by number: of vacant slots, of sets that go, and of the kept sets of each layout
+abbrev pub chains_in : Chain → Chain → List Chain → List Chain
+chains_in vacant going kept = vacant ∷ going ∷ map shown kept
 
 -- the slots of a table
 abbrev pub Slots : Type 0 → Type 0
@@ -86,19 +87,19 @@ Slots T = List (Slot T)
 module _ {T : Type 0} where
   -- the slot past the end, which never had a set
   abbrev pub no_slot : Slot T
-  no_slot = record { generation = 0; layout = 0; layout_generation = 0; used = Taken; kept_below = 0; set = None }
+  no_slot = record { generation = 0; layout = 0; used = Taken; kept_below = 0; set = None }
 
   -- the slot at a place, or else the slot past the end
   abbrev pub slot_at : Slots T → ℕ → Slot T
   slot_at slots place = slice_index_or slots place no_slot
 
   -- the slot with this set, which a call has taken
-  abbrev pub filled : ℕ → ℕ → T → Slot T → Slot T
-  filled layout layout_generation set s = record s { layout = layout; layout_generation = layout_generation; used = Taken; kept_below = 4294967295; set = Some set }
+  abbrev pub filled : ℕ → T → Slot T → Slot T
+  filled layout set s = record s { layout = layout; used = Taken; kept_below = 4294967295; set = Some set }
 
   -- the slot that an entry stands for. Contracts see slots, so how an entry packs one is proved in the file of SlotList alone
   abbrev pub slot_of : Entry T → Slot T
-  slot_of e = record { generation = e.generation; layout = e.layout; layout_generation = e.layout_generation; used = use_of e.frame e.state; kept_below = e.kept_below; set = e.set }
+  slot_of e = record { generation = e.generation; layout = e.layout; used = use_of e.frame e.state; kept_below = e.kept_below; set = e.set }
 
   -- the slots of a list
   abbrev pub slots_in : SlotList T → Slots T
@@ -152,25 +153,38 @@ module _ {T : Type 0} where
     pub rises : IsNonDecreasingBy (λ p. frame_of (slot_at slots p).used) places
     pub bound : (p : ℕ) → waits (slot_at slots p) ≡ true → frame_of (slot_at slots p).used ≤ newest
 
-  -- the list of a slot's layout is there. Its set is of this layout, or of one that had the number before; a kept one is of this layout. A held one is there
-  pub record IsListed (lists : ℕ) (generations : ℕ → ℕ) (s : Slot T) : Type 0 where
-    pub there : s.layout + 2 < lists
-    pub before : s.layout_generation ≤ generations s.layout
-    pub kept : is_kept_of s.layout s ≡ true → s.layout_generation ≡ generations s.layout
+  -- the layout of a slot has a list. A held set is there
+  pub record IsListed (layouts : ℕ) (s : Slot T) : Type 0 where
+    pub there : s.layout < layouts
     pub full : s.used ≡ Held → is_some s.set ≡ true
     pub kept_below : s.kept_below ≤ 4294967295
 
   -- each slot has its list
-  abbrev pub HasLists : Slots T → ℕ → (ℕ → ℕ) → Type 0
-  HasLists slots lists generations = (p : ℕ) → p < length slots → IsListed lists generations (slot_at slots p)
+  abbrev pub HasLists : Slots T → ℕ → Type 0
+  HasLists slots layouts = (p : ℕ) → p < length slots → IsListed layouts (slot_at slots p)
 
   -- slots, lists and queue of a table agree
-  pub record AreSound (l : SlotList T) (chains : List Chain) (generations waiting : List ℕ) (room keep newest : ℕ) : Type 0 where
-    pub size : length (slots_in l) < 4294967296
+  pub record AreSound (l : SlotList T) (chains : List Chain) (layouts : ℕ) (waiting : List ℕ) (room keep newest : ℕ) : Type 0 where
+    -- fewer than the count that marks the list of a removed layout
+    pub size : length (slots_in l) < 4294967295
     -- one place for each slot, so that a set can wait without an allocation
     pub fits : length (slots_in l) ≤ room
     pub linked : AreLinked (slots_in l) (nexts_in l) chains
     pub queue : IsQueue (slots_in l) waiting newest
-    pub known : HasLists (slots_in l) (length chains) (generation_at generations)
+    pub known : HasLists (slots_in l) layouts
     -- at most `keep` sets of a layout are kept
     pub few : (k : ℕ) → 2 ≤ k → (chain_at chains k).count ≤ keep
+
+  -- how many slots pass the test
+  abbrev pub count : (Slot T → Bool) → Slots T → ℕ
+  count test [] = 0
+  count test (s ∷ slots) = (if test s then 1 else 0) + count test slots
+
+  -- whether a slot has a set of the layout
+  abbrev pub is_set_of : ℕ → Slot T → Bool
+  is_set_of layout s = is_some s.set && (s.layout == layout)
+
+  -- each layout's users are its sets, and the layout itself while it is there
+  pub record AreCounted (slots : Slots T) (kept : List Chain) (users : List ℕ) : Type 0 where
+    pub long : length users ≡ length kept
+    pub each : (layout : ℕ) → layout < length kept → users_at users layout ≡ count (is_set_of layout) slots + (if removed_by kept layout then 0 else 1)

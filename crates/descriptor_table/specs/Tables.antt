@@ -1,9 +1,11 @@
 -- How calls change the slots of a table.
-use Rattle.std.specs.Prelude.{◌≡◌, ◌≢◌, ℕ, zero, suc, ◌+◌, ◌-◌, ◌<◌, ◌≤◌, ◌⊎◌, ◌==◌, ◌&&◌, nat_lt, Bool, true, false, List, [], ◌∷◌, length, slice_index_or, slice_set, vec_capacity, is_some, if◌then◌else◌, Option, Some, None, MatchOption}
+use Rattle.std.specs.Prelude.{◌≡◌, ◌≢◌, ℕ, ◌+◌, ◌-◌, ◌<◌, ◌≤◌, ◌⊎◌, ◌==◌, ◌&&◌, nat_lt, not, Bool, true, false, List, length, slice_index_or, slice_set, vec_capacity, is_some, if◌then◌else◌, Option, Some, None, MatchOption}
 use Rattle.std.specs.VecDeque.{deque_capacity}
-use Rattle.descriptor_table.specs.Slots.{IsNowhere, Slot, Slots, chains_in, generations_in, slots_in, space_in, filled, generation_at, is_in, is_kept_of, slot_at}
+use Rattle.descriptor_table.specs.Slots.{IsNowhere, Slot, Slots, chains_in, count, slots_in, space_in, filled, is_in, is_kept_of, is_set_of, removed_by, slot_at}
+use Rattle.descriptor_table.specs.Users.{HasNumberRoom}
 use Rattle.descriptor_table.specs.declared.handle.SetHandle.{SetHandle}
 use Rattle.descriptor_table.specs.declared.set_table.SetTable.{SetTable}
+use Rattle.descriptor_table.specs.declared.slot.Chain.{Chain}
 use Rattle.descriptor_table.specs.declared.slot.Use.{Use}
 use Rattle.descriptor_table.specs.declared.slot.Use.TheVariants.{Held, Kept, Going, Taken, Vacant}
 
@@ -16,24 +18,19 @@ is_held_use _ = false
 abbrev pub place_at : List SetHandle → ℕ → ℕ
 place_at handles i = (slice_index_or handles i (record { manager = 0; place = 0; generation = 0 })).place
 
--- how many layouts of each number were removed, after one more of this number was
-abbrev pub removed_at : ℕ → (ℕ → ℕ) → ℕ → ℕ
-removed_at layout generations n = if n == layout then generations n + 1 else generations n
+-- the layouts that were removed, once this one was
+abbrev pub removed_with : ℕ → (ℕ → Bool) → ℕ → Bool
+removed_with layout removed n = if n == layout then true else removed n
 
--- the layout that has the number now: its number, and how many had the number before
-abbrev pub current : (ℕ → ℕ) → ℕ → ℕ × ℕ
-current generations layout = (layout, generations layout)
+-- and once its number has another layout
+abbrev pub removed_without : ℕ → (ℕ → Bool) → ℕ → Bool
+removed_without layout removed n = if n == layout then false else removed n
 
--- how many lists there are with one more layout: the lists of no layout are added with the first
-abbrev pub lists_with : ℕ → ℕ
-lists_with zero = 3
-lists_with (suc n) = suc n + 1
-
--- what a table has in addition to slots: the set manager's number, how many lists there are, how many layouts of each number were removed, and the max of the kept sets of a layout
+-- what a table has in addition to slots: the set manager's number, how many layouts have a number, which of these were removed, and the max of the kept sets of a layout
 pub record Settings : Type 0 where
   pub number : ℕ
-  pub lists : ℕ
-  pub generations : ℕ → ℕ
+  pub layouts : ℕ
+  pub removed : ℕ → Bool
   pub keep : ℕ
 
 module _ {T : Type 0} where
@@ -49,26 +46,25 @@ module _ {T : Type 0} where
   abbrev pub At : ℕ → (Slot T → Slot T) → Slots T → Slots T → Type 0
   At p becomes old new = new ≡ slice_set old p (becomes (slot_at old p))
 
-  -- how many slots pass the test
-  abbrev pub count : (Slot T → Bool) → Slots T → ℕ
-  count test [] = 0
-  count test (s ∷ slots) = (if test s then 1 else 0) + count test slots
-
   -- the slots of a table, by place
   abbrev pub slots_of : SetTable T → Slots T
   slots_of t = slots_in t.slots
 
-  -- how many lists a table has: of slots without a set, of sets that go, and of kept ones for each layout
-  abbrev pub lists_of : SetTable T → ℕ
-  lists_of t = length (chains_in t.lists.items)
+  -- how many layouts have a number, the removed ones included
+  abbrev pub layouts_of : SetTable T → ℕ
+  layouts_of t = length t.kept.items
 
-  -- how many layouts of each number were removed
-  abbrev pub generations_of : SetTable T → ℕ → ℕ
-  generations_of t = generation_at (generations_in t.lists.items)
+  -- whether the layout of a number was removed
+  abbrev pub removed_of : SetTable T → ℕ → Bool
+  removed_of t = removed_by t.kept.items
+
+  -- all lists of a table
+  abbrev pub chains_of : SetTable T → List Chain
+  chains_of t = chains_in t.vacant t.going t.kept.items
 
   -- the settings of a table
   abbrev pub settings_of : SetTable T → Settings
-  settings_of t = record { number = t.number; lists = lists_of t; generations = generations_of t; keep = t.keep }
+  settings_of t = record { number = t.number; layouts = layouts_of t; removed = removed_of t; keep = t.keep }
 
   -- the settings became these, and the slots are as they were
   pub record OnlySettings (these : Settings) (old new : SetTable T) : Type 0 where
@@ -91,13 +87,30 @@ module _ {T : Type 0} where
     pub slots : becomes (slots_of old) (slots_of new)
     pub stays : Stays old new
 
+  -- the layout of a number is there
+  pub record HasLayout (layout : ℕ) (t : SetTable T) : Type 0 where
+    pub within : layout < layouts_of t
+    pub there : removed_of t layout ≡ false
+
   -- there is memory for one more layout
-  abbrev pub HasListRoom : SetTable T → Type 0
-  HasListRoom t = lists_of t + 3 ≤ vec_capacity t.lists
+  pub record HasListRoom (t : SetTable T) : Type 0 where
+    pub kept : layouts_of t + 1 ≤ vec_capacity t.kept
+    pub users : HasNumberRoom t.users
+
+  -- a layout has the number of one that was removed, of which no set was left
+  pub record Renewed (layout : ℕ) (old new : SetTable T) : Type 0 where
+    pub within : layout < layouts_of old
+    pub removed : removed_of old layout ≡ true
+    pub none : (p : ℕ) → is_set_of layout (slot_at (slots_of old) p) ≡ false
+    pub only : OnlySettings (record (settings_of old) { removed = removed_without layout (removed_of old) }) old new
+
+  -- sets are left of each layout that was removed
+  abbrev pub AreNoneFree : SetTable T → Type 0
+  AreNoneFree t = (layout : ℕ) → layout < layouts_of t → removed_of t layout ≡ true → 0 < count (is_set_of layout) (slots_of t)
 
   -- there is memory for n more slots
   pub record HasPlaces (n : ℕ) (t : SetTable T) : Type 0 where
-    pub few : length (slots_of t) + n < 4294967296
+    pub few : length (slots_of t) + n < 4294967295
     pub slots : length (slots_of t) + n ≤ space_in t.slots
     pub waiting : length (slots_of t) + n ≤ deque_capacity t.waiting
 
@@ -130,25 +143,21 @@ module _ {T : Type 0} where
   abbrev pub PicksAny : (Slot T → Bool) → Option ℕ → Slots T → Slots T → Type 0
   PicksAny test result old new = MatchOption result (PicksNone test old new) (λ p. Picks test (used_for Taken) p old new)
 
-  -- the layout of a set: its number, and how many had the number before
-  abbrev pub came_under : Slot T → ℕ × ℕ
-  came_under s = (s.layout, s.layout_generation)
-
   -- whether a set may be kept: it is newer than the last cleanup, its place has a generation left, and its layout was not removed
-  abbrev pub stays : (ℕ → ℕ) → Slot T → Bool
-  stays generations s = (nat_lt s.generation 4294967295 && nat_lt s.generation s.kept_below) && (s.layout_generation == generations s.layout)
+  abbrev pub stays : (ℕ → Bool) → Slot T → Bool
+  stays removed s = (nat_lt s.generation 4294967295 && nat_lt s.generation s.kept_below) && not (removed s.layout)
 
   -- whether a set is kept, if at most `max` of its layout are
-  abbrev pub may_stay : (ℕ → ℕ) → ℕ → Slots T → Slot T → Bool
-  may_stay generations max slots s = stays generations s && nat_lt (count (is_kept_of s.layout) slots) max
+  abbrev pub may_stay : (ℕ → Bool) → ℕ → Slots T → Slot T → Bool
+  may_stay removed max slots s = stays removed s && nat_lt (count (is_kept_of s.layout) slots) max
 
   -- the next use of a set that is freed
-  abbrev pub next_use : (ℕ → ℕ) → ℕ → Slots T → ℕ → Use
-  next_use generations max slots p = if may_stay generations max slots (slot_at slots p) then Kept else Going
+  abbrev pub next_use : (ℕ → Bool) → ℕ → Slots T → ℕ → Use
+  next_use removed max slots p = if may_stay removed max slots (slot_at slots p) then Kept else Going
 
   -- a set that was freed is kept, or its slot became this: that of a set that may be kept only if `max` sets of its layout are kept
-  abbrev pub IsBack : (Slot T → Slot T) → (ℕ → ℕ) → ℕ → Slots T → Slot T → Slot T → Type 0
-  IsBack gone generations max new o n = ((n ≡ used_for Kept o) × (stays generations o ≡ true)) ⊎ ((n ≡ gone o) × (stays generations o ≡ true → max ≤ count (is_kept_of o.layout) new))
+  abbrev pub IsBack : (Slot T → Slot T) → (ℕ → Bool) → ℕ → Slots T → Slot T → Slot T → Type 0
+  IsBack gone removed max new o n = ((n ≡ used_for Kept o) × (stays removed o ≡ true)) ⊎ ((n ≡ gone o) × (stays removed o ≡ true → max ≤ count (is_kept_of o.layout) new))
 
   -- a slot became this
   abbrev pub Becomes : (Slot T → Slot T) → Slots T → Slot T → Slot T → Type 0
@@ -185,14 +194,13 @@ module _ {T : Type 0} where
   AreAllUsed slots = (p : ℕ) → is_usable (slot_at slots p) ≡ false
 
   -- a set of the layout is in a slot that had none, and has no handle there yet
-  pub record Puts (generations : ℕ → ℕ) (layout : ℕ) (set : T) (p : ℕ) (old new : Slots T) : Type 0 where
+  pub record Puts (layout : ℕ) (set : T) (p : ℕ) (old new : Slots T) : Type 0 where
     pub empty : (slot_at old p).set ≡ None
     pub within : p < length new
     pub next : (slot_at old p).generation < 4294967295
-    pub here : slot_at new p ≡ filled layout (generations layout) set (slot_at old p)
+    pub here : slot_at new p ≡ filled layout set (slot_at old p)
     pub others : (q : ℕ) → q ≢ p → slot_at new q ≡ slot_at old q
-    -- the table grows only if each slot has a set, or had its last generation
-    pub grows : (length new ≡ length old) ⊎ ((length new ≡ length old + 1) × AreAllUsed old)
+    pub long : (length new ≡ length old) ⊎ (length new ≡ length old + 1)
 
   -- there are more slots only if each then has a set, or had its last generation
   abbrev pub Grows : Slots T → Slots T → Type 0

@@ -1,8 +1,9 @@
 //! The table of a set manager's sets. Each set has a slot, and stays there while it is reused.
-ghost use Rattle.std.specs.Prelude.{◌≡◌, ◌+◌, ◌<◌, ◌&&◌, [], length, true, if◌then◌else◌, IfSome, IsOk, None, OnErr, OnOk};
+ghost use Rattle.std.specs.Prelude.{◌≡◌, ◌+◌, ◌<◌, ◌&&◌, [], length, true, if◌then◌else◌, IfSome, IsOk, None, OnErr, OnOk, false};
 ghost use Rattle.std.specs.Option.{option_copied};
 ghost use Rattle.std.specs.VecDeque.{deque_capacity};
-ghost use Rattle.descriptor_table.specs.Slots.{AreSound, chains_in, generation_at, generations_in, no_slot, slot_at, slot_of};
+ghost use Rattle.descriptor_table.specs.Slots.{AreCounted, AreSound, chains_in, count, no_slot, removed_by, slot_at, slot_of, slots_in};
+ghost use Rattle.descriptor_table.specs.Users.{users_in};
 
 mod back;
 mod counts;
@@ -13,26 +14,18 @@ mod sets;
 mod waiting;
 
 use crate::handle::{SetHandle, SetName};
-use crate::slot::{ListHead, Use};
-use crate::slot_list::{Entry, SlotList};
+use crate::slot::{Chain, Use};
+use crate::slot_list::SlotList;
+use crate::users::LayoutUsers;
 use std::alloc::{AllocError, Global};
 use std::collections::VecDeque;
 use std::vec::Vec;
 
 /// The max number of slots.
-const MAX_SLOTS: u64 = u32::MAX as u64;
-
-/// The list of the slots without a set.
-pub(crate) const VACANT: usize = 0;
-
-/// The list of the sets that return to their pools.
-pub(crate) const GOING: usize = 1;
+const MAX_SLOTS: u64 = u32::MAX as u64 - 1;
 
 /// How many groups of sets that go there are.
 pub(crate) const GROUPS: usize = 8;
-
-/// The list of the kept sets of the first layout.
-pub(crate) const KEPT: usize = 2;
 
 /// A set manager's sets, each in a slot.
 #[derive(Drop)]
@@ -41,8 +34,15 @@ pub struct SetTable<T> {
     pub(crate) number: u64,
     pub(crate) slots: SlotList<T>,
 
-    /// The lists, except those of sets that wait.
-    pub(crate) lists: Vec<ListHead>,
+    /// The slots without a set.
+    pub(crate) vacant: Chain,
+
+    /// The sets that return to their pools.
+    pub(crate) going: Chain,
+
+    /// The kept sets of each layout, by its number.
+    pub(crate) kept: Vec<Chain>,
+    pub(crate) users: LayoutUsers,
 
     /// The places of the sets that wait for a frame, by rising frame.
     pub(crate) waiting: VecDeque<u32>,
@@ -55,49 +55,38 @@ pub struct SetTable<T> {
 
     /// For each group the place of the last set that went, after which the next one comes if it still goes.
     pub(crate) near: [u32; GROUPS],
-    ghost sound: { AreSound slots (chains_in lists.items) (generations_in lists.items) waiting.items
-        (deque_capacity waiting) keep newest },
+    ghost sound: { AreSound slots (chains_in vacant going kept.items) (length kept.items)
+        waiting.items (deque_capacity waiting) keep newest },
+    ghost counted: { AreCounted (slots_in slots) kept.items (users_in users) },
 }
 
 impl<T> SetTable<T> {
     ghost use Rattle.descriptor_table.specs.Sets.{find, is_held, is_last};
     ghost use Rattle.descriptor_table.specs.Tables.{HasPlaces, HasRoom, OnlyMemory, settings_of};
-    ghost use Rattle.descriptor_table.specs.Tables.{count, is_usable, slots_of};
+    ghost use Rattle.descriptor_table.specs.Tables.{is_usable, slots_of};
 
     /// A table without sets and layouts. It allocates no memory.
     pub fn new(alloc: Global, number: u64) -> Self
         ensures slots { slots_of result ≡ [] }
         ensures settings { settings_of result ≡ record {
           number = number;
-          lists = 0;
-          generations = generation_at [];
+          layouts = 0;
+          removed = λ layout. false;
           keep = u32.MAX;
         } }
     {
         SetTable {
             number,
             slots: SlotList::new(alloc),
-            lists: Vec::new(alloc),
+            vacant: Chain::EMPTY,
+            going: Chain::EMPTY,
+            kept: Vec::new(alloc),
+            users: LayoutUsers::new(alloc),
             waiting: VecDeque::new(alloc),
             keep: u32::MAX,
             newest: 0,
             near: [u32::MAX; GROUPS],
         }
-    }
-
-    /// The slot whose last handle this is.
-    #[inline]
-    fn last_slot(&self, handle: SetHandle) -> Option<&Entry<T>>
-        ensures last { IfSome result (λ slot. (is_last self.now.number (slots_of self.now) handle
-            ≡ true) × (slot_of slot.now ≡ slot_at (slots_of self.now) handle.place)) }
-        ensures none { result ≡ None → is_last self.now.number (slots_of self.now) handle ≡ true
-            → slot_at (slots_of self.now) handle.place ≡ no_slot }
-    {
-        if handle.manager != self.number {
-            return None;
-        }
-        let slot = self.slots.get(handle.place)?;
-        (slot.generation == handle.generation).then_some(slot)
     }
 
     /// The set of a handle, while `frame` is the open frame if `is_open`.
@@ -106,20 +95,11 @@ impl<T> SetTable<T> {
         ensures { option_copied result ≡ find self.now.number frame is_open (slots_of self.now)
             handle }
     {
-        let slot = self.last_slot(handle)?;
+        let slot = self.slots.last(self.number, handle)?;
         if !slot.used().is_live(frame, is_open) {
             return None;
         }
         slot.set.as_ref()
-    }
-
-    /// The set in the slot whose last handle this is, whatever it is in use for.
-    #[inline]
-    pub fn get_last(&self, handle: SetHandle) -> Option<&T>
-        ensures { option_copied result ≡ (if is_last self.now.number (slots_of self.now) handle
-            then (slot_at (slots_of self.now) handle.place).set else None) }
-    {
-        self.last_slot(handle)?.set.as_ref()
     }
 
     /// Whether a name is that of a held set.
@@ -128,7 +108,7 @@ impl<T> SetTable<T> {
         ensures { result ≡ (N.fit name.now (slot_at (slots_of self.now) (N.handle_of name.now).place).set
             && is_held self.now.number (slots_of self.now) (N.handle_of name.now)) }
     {
-        let Some(slot) = self.last_slot(name.handle()) else {
+        let Some(slot) = self.slots.last(self.number, name.handle()) else {
             return false;
         };
         match slot.used() {
@@ -147,7 +127,7 @@ impl<T> SetTable<T> {
         ensures full { OnErr result (count is_usable (slots_of self.old) < additional) }
         ensures only { OnlyMemory self.old self.new }
     {
-        let vacant = self.chain(VACANT).count;
+        let vacant = self.vacant.count;
         if additional <= vacant {
             return Ok(());
         }

@@ -1,5 +1,5 @@
 //! Slots, and the lists that they are in.
-ghost use Rattle.std.specs.Prelude.{◌≡◌, ℕ, IsTrue, true};
+ghost use Rattle.std.specs.Prelude.{◌≡◌, ◌≢◌, ℕ, ◌+◌, ◌-◌, ◌<◌, IsTrue, true};
 ghost use Rattle.descriptor_table.specs.Slots.{frame_of, is_live, use_of, waits_for};
 
 /// What a set is in use for.
@@ -111,12 +111,47 @@ pub struct Chain {
     pub(crate) count: u32,
 }
 
-/// One of a table's lists, except those of sets that wait.
-#[derive(Clone, Copy)]
-pub struct ListHead {
-    pub(crate) chain: Chain,
+impl Chain {
+    ghost use Rattle.descriptor_table.specs.Slots.{shown};
 
-    /// How many layouts of this list's number were removed. A set of one of these isn't kept once it is
-    /// freed.
-    pub(crate) generation: u32,
+    /// A list without slots.
+    pub(crate) const EMPTY: Self = Chain { first: 0, count: 0 };
+
+    /// The list of a removed layout, in which no set is kept: it is never below a max.
+    pub(crate) const REMOVED: Self = Chain {
+        first: 0,
+        count: u32::MAX,
+    };
+
+    /// The list, empty if it is that of a removed layout.
+    #[inline]
+    pub(crate) fn shown(self) -> Chain
+        ensures { result ≡ shown self }
+    {
+        if self.count == u32::MAX {
+            Chain::EMPTY
+        } else {
+            self
+        }
+    }
+
+    /// Makes a slot the first of the list. Its next is to be the one that was first.
+    #[inline]
+    pub(crate) fn push(&mut self, place: u32)
+        requires { self.old.count < 4294967295 }
+        ensures { self.new ≡ record { first = place; count = self.old.count + 1 } }
+    {
+        self.first = place;
+        self.count += 1;
+    }
+
+    /// Takes the first slot from the list, with the one that comes next.
+    #[inline]
+    pub(crate) fn pop(&mut self, next: u32)
+        requires { self.old.count ≢ 0 }
+        ensures { self.new ≡ record { first = next; count = self.old.count - 1 } }
+    {
+        self.first = next;
+        self.count -= 1;
+    }
 }

@@ -2,6 +2,7 @@
 ghost use Rattle.std.specs.Prelude.{◌≡◌, ◌+◌, ◌<◌, ◌≤◌, [], ◌∷◌, ◌++◌, length, slice_index_or, slice_set};
 ghost use Rattle.std.specs.Prelude.{IfSome, IsOk, OnOk, None, true};
 
+use crate::handle::SetHandle;
 use crate::slot::{State, Use};
 use std::alloc::{AllocError, Global};
 use std::vec::Vec;
@@ -12,9 +13,6 @@ pub struct Entry<T> {
     /// How many handles were given for this place.
     pub(crate) generation: u32,
     pub(crate) layout: u32,
-
-    /// How many layouts had this number before the set's layout.
-    pub(crate) layout_generation: u32,
 
     /// The next slot of this slot's list. A slot is in one list at a time, so a set is kept without an
     /// allocation.
@@ -45,7 +43,6 @@ impl<T> Entry<T> {
         Entry {
             generation: 0,
             layout: 0,
-            layout_generation: 0,
             next: 0,
             frame: 0,
             state: State::Taken,
@@ -94,6 +91,7 @@ pub struct SlotList<T> {
 impl<T> SlotList<T> {
     ghost use Rattle.descriptor_table.specs.Slots.{Writes, filled, frame_of, nexts_in, slot_at, slot_of, slots_in, space_in};
     ghost use Rattle.descriptor_table.specs.Slots.{no_slot, waits};
+    ghost use Rattle.descriptor_table.specs.Sets.{is_last};
     ghost use Rattle.descriptor_table.specs.Tables.{aged, renewed, used_for, vacated};
 
     /// A list without slots. It allocates no memory.
@@ -162,6 +160,21 @@ impl<T> SlotList<T> {
         }
     }
 
+    /// The slot whose last handle this is, for the owner of this number.
+    #[inline]
+    pub(crate) fn last(&self, number: u64, handle: SetHandle) -> Option<&Entry<T>>
+        ensures last { IfSome result (λ slot. (is_last number (slots_in self.now) handle ≡ true)
+            × (slot_of slot.now ≡ slot_at (slots_in self.now) handle.place)) }
+        ensures none { result ≡ None → is_last number (slots_in self.now) handle ≡ true
+            → slot_at (slots_in self.now) handle.place ≡ no_slot }
+    {
+        if handle.manager != number {
+            return None;
+        }
+        let slot = self.get(handle.place)?;
+        (slot.generation == handle.generation).then_some(slot)
+    }
+
     /// Changes what the set of a slot is in use for.
     #[inline]
     pub(crate) fn set_use(&mut self, place: usize, used: Use)
@@ -223,17 +236,6 @@ impl<T> SlotList<T> {
         self.entries[place].kept_below = 0;
     }
 
-    /// Takes the set out of a slot.
-    #[inline]
-    pub(crate) fn take_set(&mut self, place: usize) -> Option<T>
-        requires { place < length (slots_in self.old) }
-        ensures set { result ≡ (slot_at (slots_in self.old) place).set }
-        ensures writes { Writes place (λ slot. record slot { set = None }) self.old self.new }
-        ensures nexts { nexts_in self.new ≡ nexts_in self.old }
-    {
-        self.entries[place].set.take()
-    }
-
     /// Takes the set out of a slot, leaves the slot vacant, and makes `next` the slot that follows in its list.
     #[inline]
     pub(crate) fn vacate(&mut self, place: usize, next: u32) -> Option<T>
@@ -248,37 +250,33 @@ impl<T> SlotList<T> {
         entry.set.take()
     }
 
-    /// Puts a set into a slot that has none, and to a use, raises the slot's generation, and returns it.
+    /// Puts a set into a slot that has none, and to a use. `generation` is the slot's next one.
     #[inline]
     pub(crate) fn fill(
         &mut self,
         place: usize,
+        generation: u32,
         layout: u32,
-        layout_generation: u32,
         group: u8,
         set: T,
         used: Use,
-    ) -> u32
+    )
         requires within { place < length (slots_in self.old) }
         requires empty { (slot_at (slots_in self.old) place).set ≡ None }
-        requires next { (slot_at (slots_in self.old) place).generation < 4294967295 }
-        ensures generation { result ≡ (slot_at (slots_in self.old) place).generation + 1 }
-        ensures writes { Writes place (λ slot. renewed used (filled layout layout_generation set slot))
-            self.old self.new }
+        requires next { generation ≡ (slot_at (slots_in self.old) place).generation + 1 }
+        ensures writes { Writes place (λ slot. renewed used (filled layout set slot)) self.old self.new }
         ensures nexts { nexts_in self.new ≡ nexts_in self.old }
     {
         let entry = &mut self.entries[place];
+        entry.generation = generation;
         entry.layout = layout;
-        entry.layout_generation = layout_generation;
         entry.group = group;
         entry.kept_below = u32::MAX;
         match entry.set.replace(set) {
             None => {}
             Some(_) => unreachable!(),
         }
-        entry.generation += 1;
         entry.set_use(used);
-        entry.generation
     }
 
     /// Adds a slot without a set, in reserved memory.

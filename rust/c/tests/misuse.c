@@ -335,12 +335,13 @@ static void pass_wrong_sets(void) {
     CHECK(gd_destroy(other) == GD_OK && world.pools == 0);
 }
 
-// A removed layout is invalid, even after its place has another, which has another index.
+// A removed layout is invalid, even after its place has another, which has another index. None has it while a set
+// of the removed one is left.
 static void remove_layouts(void) {
     struct world world = {0};
     gd_device device = device_of(&world);
     gd_allocator one, other;
-    gd_layout layout, foreign, next, none = {0, 0};
+    gd_layout layout, foreign, next, last, none = {0, 0};
     gd_set sets[6], set;
     uint32_t counts[GD_KINDS] = {1};
     create(&device, 100, &one);
@@ -358,13 +359,15 @@ static void remove_layouts(void) {
         if (later == 0)
             CHECK(gd_add_layout(one, 5, counts, 0, &next) == GD_OK);
     }
-    CHECK(next.index != layout.index && (next.index & UINT32_MAX) == (layout.index & UINT32_MAX));
+    CHECK((next.index & UINT32_MAX) != (layout.index & UINT32_MAX));
     // Of the sets of the old one none is kept.
     CHECK(gd_free(one, &sets[2], 1) == GD_OK && world.sets == 3);
     CHECK(gd_free_after(one, &sets[3], 1, 1) == GD_OK && gd_frame_done(one, 1) == GD_OK);
     CHECK(world.sets == 2 && gd_allocate(one, next, 1, &set) == GD_OK && world.sets == 3);
     CHECK(gd_free(one, &set, 1) == GD_OK && gd_free(one, &sets[4], 2) == GD_OK);
     CHECK(world.sets == EITHER(0, 1));
+    CHECK(gd_add_layout(one, 6, counts, 0, &last) == GD_OK && gd_remove_layout(one, layout) == GD_BAD_LAYOUT);
+    CHECK(last.index != layout.index && (last.index & UINT32_MAX) == (layout.index & UINT32_MAX));
     CHECK(gd_destroy(one) == GD_OK && gd_destroy(other) == GD_OK && world.pools == 0);
 }
 

@@ -200,7 +200,7 @@ impl<L, P, S, D: DescriptorDevice<L, P, S>> SetManager<L, P, S, D> {
     }
 
     /// Adds a layout, and returns its handle. The layout stays yours: destroy it after `remove_layout` or
-    /// `shutdown`.
+    /// `shutdown`. Memory of a removed layout is used again once all its sets are freed.
     ///
     /// # Errors
     ///

@@ -74,7 +74,7 @@ fn a_removed_handle_is_invalid() {
     shutdown(&other_gpu, other);
 }
 
-/// The next layout has the slot of the removed one, and its counts, so its sets are in the same pools.
+/// The next layout has the counts of the removed one, so its sets are in the same pools.
 #[test]
 fn sets_of_a_removed_layout() {
     let gpu = Gpu::new();
@@ -91,7 +91,7 @@ fn sets_of_a_removed_layout() {
     let new = add(&mut it, 0);
     let raws: Vec<_> = held[1..].iter().map(|set| *it.set(*set).unwrap()).collect();
     assert!(it.set(drawn).is_some());
-    // None is kept for the layout that has the slot now, however it is freed.
+    // None is kept for the new layout, however it is freed.
     it.end_frame();
     it.free_after(&[held[1]], 1).unwrap();
     // SAFETY: no frame in flight reads one.
@@ -128,6 +128,26 @@ fn memory_follows_the_peak_of_layouts() {
     let before = (calls(), bytes());
     (0..10_000).for_each(|round| turn(round * 7 % 30));
     assert_eq!((calls(), bytes()), before);
+    shutdown(&gpu, it);
+}
+
+/// Only then, since another layout with its memory would keep them.
+#[test]
+fn memory_of_a_removed_layout_is_used_again_once_its_sets_are_freed() {
+    let gpu = Gpu::new();
+    let mut it = SetManager::new(&gpu, 10_000);
+    let leave_a_set = |it: &mut Sets| {
+        let layout = add(it, 0);
+        let set = it.allocate(layout).unwrap();
+        remove(it, layout).unwrap();
+        set
+    };
+    let held: Vec<_> = (0..30).map(|_| leave_a_set(&mut it)).collect();
+    let before = calls();
+    free(&mut it, &held);
+    let new: Vec<_> = (0..30).map(|number| add(&mut it, number % 3)).collect();
+    assert_eq!(calls(), before, "no memory is taken");
+    assert!(new.iter().all(|layout| it.kept_count(*layout) == 0));
     shutdown(&gpu, it);
 }
 

@@ -135,6 +135,8 @@ fn numbers_of_layouts() {
         (it.statistics().layouts, other.statistics().layouts),
         (2, 1)
     );
+    // SAFETY: as above.
+    unsafe { it.free(&sets[3..]) }.unwrap();
     // It has the place of the removed one.
     let again = add(&mut it, layout(1));
     assert_eq!(it.statistics().layouts, 3);

@@ -12,13 +12,13 @@ impl<L: Drop, P: Drop, S: Drop, D: DescriptorDevice<L, P, S>> Store<L, P, S, D> 
     ghost use Rattle.descriptor_table.specs.Giving.{is_of};
     ghost use Rattle.descriptor_table.specs.Sets.{AllFit, AreHeldOnce, sets_in};
     ghost use Rattle.descriptor_table.specs.Slots.{is_due, is_kept_of, slot_at};
-    ghost use Rattle.descriptor_table.specs.Tables.{Becomes, KeepsUpTo, MayBecome, TurnEach, Turns, is_kept, removed_at};
+    ghost use Rattle.descriptor_table.specs.Tables.{Becomes, KeepsUpTo, MayBecome, HasLayout, TurnEach, Turns, is_kept, removed_with};
     ghost use Rattle.descriptor_table.specs.Tables.{used_for, vacated};
     ghost use Rattle.descriptor_table.specs.declared.slot.Use.{Use};
     ghost use Rattle.descriptor_manager.specs.Stores.{AreCleaned, Cleans, FreesSets, IsFreed, KeepsStore};
-    ghost use Rattle.descriptor_manager.specs.Stores.{HasLayout, IsAtRest, NoneComes};
+    ghost use Rattle.descriptor_manager.specs.Stores.{IsAtRest, NoneComes};
     ghost use Rattle.descriptor_manager.specs.Stores.{Removes, Settles, SettlesTo};
-    ghost use Rattle.descriptor_manager.specs.Stores.{generations_in, kept_of};
+    ghost use Rattle.descriptor_manager.specs.Stores.{kept_of, removed_in};
     ghost use Rattle.descriptor_manager.specs.Stores.{pools_besides, side_of, slots_in};
 
     /// Returns the sets of a group to their pools. In most frames none goes.
@@ -141,7 +141,7 @@ impl<L: Drop, P: Drop, S: Drop, D: DescriptorDevice<L, P, S>> Store<L, P, S, D> 
         ensures few { (layout : ℕ) → kept_of layout self.new ≤ max }
         ensures as_many { (layout : ℕ) → KeepsUpTo max (is_kept_of layout) (slots_in self.old)
             (slots_in self.new) }
-        ensures settles { SettlesTo (generations_in self.old) max NoneComes self.old self.new }
+        ensures settles { SettlesTo (removed_in self.old) max NoneComes self.old self.new }
     {
         self.table.trim(max);
         self.table.set_max_kept(max);
@@ -149,17 +149,17 @@ impl<L: Drop, P: Drop, S: Drop, D: DescriptorDevice<L, P, S>> Store<L, P, S, D> 
     }
 
     /// Removes a layout: its kept sets return to their pools, and its other sets aren't kept once they
-    /// are freed, not even when another layout has its number. Then the empty pools of its key are destroyed.
+    /// are freed. Then the empty pools of its key are destroyed. No layout gets its number before all
+    /// its sets are back.
     pub(crate) fn remove_layout(&mut self, known: &SetLayout<L>, layout: u32)
         requires meant { IsMeant D.meaning known.now }
         requires rest { IsAtRest self.old }
-        requires layout { HasLayout layout self.old }
-        requires next { generations_in self.old layout < 4294967295 }
+        requires layout { HasLayout layout self.old.table }
         ensures removes { Removes known.now.layout layout self.old self.new }
-        ensures settles { SettlesTo (removed_at layout (generations_in self.old)) self.old.table.keep
+        ensures settles { SettlesTo (removed_with layout (removed_in self.old)) self.old.table.keep
             NoneComes self.old self.new }
     {
-        self.give(Group::KeptOf(layout));
+        self.give(Group::KeptOf(layout as usize));
         self.table.remove_layout(layout);
         self.allocator.trim_layout(&mut self.device, known);
     }

@@ -9,9 +9,9 @@ use gpu_descriptor::{DescriptorDevice, DescriptorSet};
 impl<L: Drop, P: Drop, S: Drop, D: DescriptorDevice<L, P, S>> Store<L, P, S, D> {
     ghost use Rattle.descriptor_table.specs.Sets.{AllFit};
     ghost use Rattle.descriptor_table.specs.Slots.{frame_of, is_kept_of, is_live, slot_at};
-    ghost use Rattle.descriptor_table.specs.Tables.{HasRoom, place_at};
-    ghost use Rattle.descriptor_manager.specs.Stores.{ComesOf, HasLayout, HoldEach, Holds, KeepsStore};
-    ghost use Rattle.descriptor_manager.specs.Stores.{NoneComes, current_in, kept_of};
+    ghost use Rattle.descriptor_table.specs.Tables.{HasLayout, HasRoom, place_at};
+    ghost use Rattle.descriptor_manager.specs.Stores.{ComesOf, HoldEach, Holds, KeepsStore};
+    ghost use Rattle.descriptor_manager.specs.Stores.{NoneComes, kept_of};
     ghost use Rattle.descriptor_manager.specs.Stores.{slots_in};
 
     /// Puts a kept set of a layout to a use, and returns its name.
@@ -19,7 +19,7 @@ impl<L: Drop, P: Drop, S: Drop, D: DescriptorDevice<L, P, S>> Store<L, P, S, D> 
     pub(super) fn hold_next<N: SetName<DescriptorSet<S>>>(&mut self, layout: u32, used: Use) -> N
         requires kept { 0 < kept_of layout self.old }
         requires live { is_live (frame_of used) true used ≡ true }
-        ensures holds { HoldEach self.old.table.number (current_in layout self.old) used
+        ensures holds { HoldEach self.old.table.number layout used
             (N.handle_of result ∷ []) (slots_in self.old) (slots_in self.new) }
         ensures was_kept { is_kept_of layout (slot_at (slots_in self.old)
             (N.handle_of result).place) ≡ true }
@@ -43,7 +43,7 @@ impl<L: Drop, P: Drop, S: Drop, D: DescriptorDevice<L, P, S>> Store<L, P, S, D> 
     )
         requires kept { length names.old ≤ kept_of layout self.old }
         requires live { is_live (frame_of used) true used ≡ true }
-        ensures holds { HoldEach self.old.table.number (current_in layout self.old) used
+        ensures holds { HoldEach self.old.table.number layout used
             (N.handles_of names.new) (slots_in self.old) (slots_in self.new) }
         ensures were_kept { (i : ℕ) → i < length names.old → is_kept_of layout (slot_at
             (slots_in self.old) (place_at (N.handles_of names.new) i)) ≡ true }
@@ -63,10 +63,10 @@ impl<L: Drop, P: Drop, S: Drop, D: DescriptorDevice<L, P, S>> Store<L, P, S, D> 
     #[inline(always)]
     pub(super) fn hold_last<N: SetName<DescriptorSet<S>>>(&mut self, layout: u32, used: Use) -> N
         requires some { 0 < length self.old.coming.items }
-        requires layout { HasLayout layout self.old }
+        requires layout { HasLayout layout self.old.table }
         requires room { HasRoom (length self.old.coming.items) self.old.table }
         requires live { is_live (frame_of used) true used ≡ true }
-        ensures holds { HoldEach self.old.table.number (current_in layout self.old) used
+        ensures holds { HoldEach self.old.table.number layout used
             (N.handle_of result ∷ []) (slots_in self.old) (slots_in self.new) }
         ensures fits { N.fit result (slot_at (slots_in self.new) (N.handle_of result).place).set ≡ true }
         ensures fewer { length self.new.coming.items + 1 ≡ length self.old.coming.items }
@@ -93,11 +93,11 @@ impl<L: Drop, P: Drop, S: Drop, D: DescriptorDevice<L, P, S>> Store<L, P, S, D> 
         used: Use,
         names: &mut [N],
     )
-        requires layout { HasLayout layout self.old }
+        requires layout { HasLayout layout self.old.table }
         requires room { HasRoom (length self.old.coming.items) self.old.table }
         requires as_many { length names.old ≡ length self.old.coming.items }
         requires live { is_live (frame_of used) true used ≡ true }
-        ensures holds { HoldEach self.old.table.number (current_in layout self.old) used
+        ensures holds { HoldEach self.old.table.number layout used
             (N.handles_of names.new) (slots_in self.old) (slots_in self.new) }
         ensures none { self.new.coming.items ≡ [] }
         ensures fit { AllFit N.handle_of N.fit (slots_in self.new) names.new }

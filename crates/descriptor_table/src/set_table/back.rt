@@ -2,43 +2,30 @@
 //! their pools.
 ghost use Rattle.std.specs.Prelude.{◌≡◌, ◌≢◌, ◌↔◌, ◌+◌, ◌<◌, ◌≤◌, ◌&&◌, ℕ, true, false, IsFalse, IsTrue, is_some, length, slice_set, take, List, if◌then◌else◌};
 
-use super::{KEPT, SetTable};
+use super::SetTable;
+use crate::giving::Group;
 use crate::handle::SetName;
-use crate::slot::{ListHead, Use};
+use crate::slot::Use;
 
 impl<T> SetTable<T> {
     ghost use Rattle.descriptor_table.specs.Sets.{AllFit, AreHeldOnce, is_held};
-    ghost use Rattle.descriptor_table.specs.Slots.{IsNowhere, Slot, is_due, is_in, is_kept_of, slot_at, waits};
+    ghost use Rattle.descriptor_table.specs.Slots.{IsNowhere, Slot, count, is_due, is_in, is_kept_of, slot_at, waits};
     ghost use Rattle.descriptor_table.specs.Tables.{At, Becomes, CanBeHeld, Changes, HasTaken};
     ghost use Rattle.descriptor_table.specs.Tables.{IsBack, KeepsUpTo, MayBecome};
-    ghost use Rattle.descriptor_table.specs.Tables.{Stays, TurnEach, Turns, count};
-    ghost use Rattle.descriptor_table.specs.Tables.{generations_of, holds, is_kept};
-    ghost use Rattle.descriptor_table.specs.Tables.{lists_of, may_stay, next_use, place_at};
+    ghost use Rattle.descriptor_table.specs.Tables.{Stays, TurnEach, Turns};
+    ghost use Rattle.descriptor_table.specs.Tables.{holds, is_kept, removed_of};
+    ghost use Rattle.descriptor_table.specs.Tables.{may_stay, next_use, place_at};
     ghost use Rattle.descriptor_table.specs.Tables.{slots_of, used_for};
-
-    /// The list of a layout's kept sets.
-    #[inline]
-    pub(super) fn kept_list(&self, layout: u32) -> &ListHead
-        requires { layout + 2 < lists_of self.now }
-        ensures generation { result.now.generation ≡ generations_of self.now layout }
-        ensures count { result.now.chain.count ≡ count (is_kept_of layout) (slots_of self.now) }
-        ensures few { result.now.chain.count ≤ self.now.keep }
-    {
-        &self.lists[layout as usize + KEPT]
-    }
 
     /// Whether a set that is freed may be kept.
     #[inline]
     fn may_stay(&self, place: usize) -> bool
         requires { place < length (slots_of self.now) }
-        ensures { result ≡ may_stay (generations_of self.now) self.now.keep
+        ensures { result ≡ may_stay (removed_of self.now) self.now.keep
             (slots_of self.now) (slot_at (slots_of self.now) place) }
     {
         let slot = self.slots.at(place);
-        let list = self.kept_list(slot.layout);
-        slot.generation < slot.kept_below
-            && slot.layout_generation == list.generation
-            && list.chain.count < self.keep
+        slot.generation < slot.kept_below && self.kept[slot.layout as usize].count < self.keep
     }
 
     /// Keeps a set that is in no list, if it may be kept.
@@ -47,7 +34,7 @@ impl<T> SetTable<T> {
         requires within { place < length (slots_of self.old) }
         requires idle { IsNowhere (slot_at (slots_of self.old) place).used }
         requires full { is_some (slot_at (slots_of self.old) place).set ≡ true }
-        ensures may { result ≡ may_stay (generations_of self.old) self.old.keep (slots_of self.old)
+        ensures may { result ≡ may_stay (removed_of self.old) self.old.keep (slots_of self.old)
             (slot_at (slots_of self.old) place) }
         ensures keeps { Changes (λ old new. new ≡ (if result then slice_set old place
             (used_for Use.Kept (slot_at old place)) else old)) self.old self.new }
@@ -55,8 +42,8 @@ impl<T> SetTable<T> {
         if !self.may_stay(place) {
             return false;
         }
-        let list = self.slots.at(place).layout as usize + KEPT;
-        self.link(list, place, Use::Kept);
+        let layout = self.slots.at(place).layout as usize;
+        self.link(Group::KeptOf(layout), place, Use::Kept);
         true
     }
 
@@ -64,7 +51,7 @@ impl<T> SetTable<T> {
     #[inline(always)]
     fn settle(&mut self, place: usize)
         requires { HasTaken place (slots_of self.old) }
-        ensures { Changes (At place (used_for (next_use (generations_of self.old)
+        ensures { Changes (At place (used_for (next_use (removed_of self.old)
             self.old.keep (slots_of self.old) place))) self.old self.new }
     {
         if !self.keep_at(place) {
@@ -75,7 +62,7 @@ impl<T> SetTable<T> {
     /// Frees the sets that wait for `frame` or an earlier one: each is kept, or goes.
     pub fn settle_due(&mut self, frame: u64)
         ensures { Changes (Turns (is_due frame) (IsBack (used_for Use.Going)
-            (generations_of self.old) self.old.keep)) self.old self.new }
+            (removed_of self.old) self.old.keep)) self.old self.new }
     {
         while let Some(place) = self.pick_due(frame) {
             self.settle(place);
@@ -89,7 +76,7 @@ impl<T> SetTable<T> {
             (N.handle_of name.now).place).set && is_held self.old.number (slots_of self.old)
             (N.handle_of name.now)) ≡ true }
         ensures keeps { IsTrue result → At (N.handle_of name.now).place (used_for (next_use
-            (generations_of self.old) self.old.keep (slots_of self.old)
+            (removed_of self.old) self.old.keep (slots_of self.old)
             (N.handle_of name.now).place)) (slots_of self.old) (slots_of self.new) }
         ensures none { IsFalse result → slots_of self.new ≡ slots_of self.old }
         ensures stays { Stays self.old self.new }
@@ -105,7 +92,7 @@ impl<T> SetTable<T> {
         ensures once { result ≡ length names.now → AreHeldOnce self.old.number (slots_of self.old)
             (N.handles_of names.now) × AllFit N.handle_of N.fit (slots_of self.old) names.now }
         ensures back { result ≡ length names.now → TurnEach (N.handles_of names.now) (IsBack
-            (used_for Use.Going) (generations_of self.old) self.old.keep) (slots_of self.old)
+            (used_for Use.Going) (removed_of self.old) self.old.keep) (slots_of self.old)
             (slots_of self.new) }
         ensures can { (i : ℕ) → i < result
             → CanBeHeld (slot_at (slots_of self.new) (place_at (N.handles_of names.now) i)) }
@@ -128,7 +115,7 @@ impl<T> SetTable<T> {
         requires taken { (i : ℕ) → i < length (N.handles_of names.now)
             → HasTaken (place_at (N.handles_of names.now) i) (slots_of self.old) }
         ensures { Changes (TurnEach (N.handles_of names.now) (IsBack (used_for Use.Going)
-            (generations_of self.old) self.old.keep)) self.old self.new }
+            (removed_of self.old) self.old.keep)) self.old self.new }
     {
         for index in 0..names.len() {
             self.settle(names[index].handle().place as usize);
@@ -141,7 +128,7 @@ impl<T> SetTable<T> {
         ensures once { IsTrue result ↔ (AreHeldOnce self.old.number (slots_of self.old)
             (N.handles_of names.now) × AllFit N.handle_of N.fit (slots_of self.old) names.now) }
         ensures back { IsTrue result → TurnEach (N.handles_of names.now) (IsBack (used_for Use.Going)
-            (generations_of self.old) self.old.keep) (slots_of self.old) (slots_of self.new) }
+            (removed_of self.old) self.old.keep) (slots_of self.old) (slots_of self.new) }
         ensures none { IsFalse result → slots_of self.new ≡ slots_of self.old }
         ensures stays { Stays self.old self.new }
     {
@@ -150,7 +137,9 @@ impl<T> SetTable<T> {
             return true;
         }
         // Some may not be kept. None goes before all are found to be held, so that sets that go can be grouped.
-        self.put_back(names, kept);
+        if kept > 0 {
+            self.put_back(names, kept);
+        }
         if !self.take_each(names) {
             return false;
         }
@@ -206,16 +195,15 @@ impl<T> SetTable<T> {
         }
     }
 
-    /// Lets kept sets of a list go, until at most `max` are left.
-    fn trim_list(&mut self, list: usize, max: u32)
-        requires list { 2 ≤ list }
-        requires within { list < lists_of self.old }
-        ensures turns { Changes (Turns (is_in list) (MayBecome (used_for Use.Going))) self.old self.new }
-        ensures few { count (is_in list) (slots_of self.new) ≤ max }
-        ensures as_many { KeepsUpTo max (is_in list) (slots_of self.old) (slots_of self.new) }
+    /// Lets kept sets of a layout go, until at most `max` are left.
+    fn trim_layout(&mut self, layout: usize, max: u32)
+        ensures turns { Changes (Turns (is_kept_of layout) (MayBecome (used_for Use.Going))) self.old
+            self.new }
+        ensures few { count (is_kept_of layout) (slots_of self.new) ≤ max }
+        ensures as_many { KeepsUpTo max (is_kept_of layout) (slots_of self.old) (slots_of self.new) }
     {
-        while self.chain(list).count > max {
-            match self.pick(list) {
+        while self.count(Group::KeptOf(layout)) > max {
+            match self.pick(Group::KeptOf(layout)) {
                 Some(place) => self.let_go(place),
                 None => unreachable!(),
             }
@@ -229,8 +217,8 @@ impl<T> SetTable<T> {
         ensures as_many { (layout : ℕ) → KeepsUpTo max (is_kept_of layout) (slots_of self.old)
             (slots_of self.new) }
     {
-        for list in KEPT..self.lists.len() {
-            self.trim_list(list, max);
+        for layout in 0..self.kept.len() {
+            self.trim_layout(layout, max);
         }
     }
 }

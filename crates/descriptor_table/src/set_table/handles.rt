@@ -1,13 +1,15 @@
 //! Sets that are taken by their names, all or none.
-ghost use Rattle.std.specs.Prelude.{◌≡◌, ◌<◌, ◌≤◌, ◌↔◌, ◌≢◌, ℕ, IsTrue, IsFalse, is_some, length, take, true};
+ghost use Rattle.std.specs.Prelude.{◌≡◌, ◌<◌, ◌≤◌, ◌↔◌, ℕ, IsTrue, IsFalse, is_some, length, take, true};
 
-use super::{GOING, KEPT, SetTable};
+use super::SetTable;
+use crate::giving::Group;
 use crate::handle::SetName;
 use crate::slot::Use;
 
 impl<T> SetTable<T> {
     ghost use Rattle.descriptor_table.specs.Sets.{AllFit, AreHeldOnce};
-    ghost use Rattle.descriptor_table.specs.Slots.{IsNowhere, is_in, slot_at};
+    ghost use Rattle.descriptor_table.specs.Giving.{is_of};
+    ghost use Rattle.descriptor_table.specs.Slots.{IsNowhere, slot_at};
     ghost use Rattle.descriptor_table.specs.Tables.{At, Becomes, CanBeHeld, Changes, Stays, TurnEach};
     ghost use Rattle.descriptor_table.specs.Tables.{place_at, slots_of, used_for};
 
@@ -67,10 +69,10 @@ impl<T> SetTable<T> {
         let slot = self.slots.at(place);
         match slot.used() {
             Use::Kept => {
-                let list = slot.layout as usize + KEPT;
-                self.unlink(list, Use::Kept, place);
+                let group = Group::KeptOf(slot.layout as usize);
+                self.unlink(group, Use::Kept, place);
             }
-            Use::Going => self.unlink(GOING, Use::Going, place),
+            Use::Going => self.unlink(Group::Going, Use::Going, place),
             Use::Held | Use::InFrame(_) | Use::Waits(_) | Use::Taken | Use::Vacant => {}
         }
         self.assign(place, Use::Held);
@@ -78,19 +80,18 @@ impl<T> SetTable<T> {
 
     /// Takes a slot out of its list of sets. That of the set that came last is the first of the list. Others
     /// that are before it come back.
-    fn unlink(&mut self, list: usize, used: Use, place: usize)
-        requires list { list ≢ 0 }
-        requires listed { is_in list (slot_at (slots_of self.old) place) ≡ true }
+    fn unlink(&mut self, group: Group, used: Use, place: usize)
+        requires listed { is_of group (slot_at (slots_of self.old) place) ≡ true }
         requires used { (slot_at (slots_of self.old) place).used ≡ used }
         ensures { Changes (At place (used_for Use.Taken)) self.old self.new }
     {
-        match self.pick(list) {
+        match self.pick(group) {
             Some(first) => {
                 if first == place {
                     return;
                 }
-                self.unlink(list, used, place);
-                self.link(list, first, used);
+                self.unlink(group, used, place);
+                self.link(group, first, used);
             }
             None => unreachable!(),
         }

@@ -1,24 +1,16 @@
 //! Layouts that are added and removed, and sets that age.
-ghost use Rattle.std.specs.Prelude.{◌≡◌, ◌↔◌, ◌+◌, ◌<◌, ℕ, false, true, IsOk, IsTrue, OnOk, length};
-ghost use Rattle.std.specs.Prelude.{vec_capacity};
+ghost use Rattle.std.specs.Prelude.{◌≡◌, ◌+◌, ◌<◌, ℕ, false, true, IfSome, IsOk, None, OnOk, length};
 
-use super::{KEPT, SetTable};
-use crate::slot::{Chain, ListHead};
+use super::SetTable;
+use crate::slot::Chain;
 use std::alloc::AllocError;
 
 impl<T> SetTable<T> {
     ghost use Rattle.descriptor_table.specs.Slots.{is_kept_of, slot_at};
-    ghost use Rattle.descriptor_table.specs.Tables.{At, Becomes, Changes, HasListRoom, OnlySettings, Turns};
-    ghost use Rattle.descriptor_table.specs.Tables.{aged, generations_of, lists_of};
-    ghost use Rattle.descriptor_table.specs.Tables.{lists_with, removed_at, settings_of, slots_of};
-
-    /// Whether a layout was added.
-    #[inline]
-    pub fn has_layouts(&self) -> bool
-        ensures { IsTrue result ↔ (0 < lists_of self.now) }
-    {
-        self.lists.len() > 0
-    }
+    ghost use Rattle.descriptor_table.specs.Tables.{AreNoneFree, At, Becomes, Changes, HasLayout};
+    ghost use Rattle.descriptor_table.specs.Tables.{HasListRoom, OnlySettings, Renewed, Turns, aged};
+    ghost use Rattle.descriptor_table.specs.Tables.{layouts_of, removed_of, removed_with, settings_of};
+    ghost use Rattle.descriptor_table.specs.Tables.{slots_of};
 
     /// Reserves memory for one more layout.
     pub fn reserve_layout(&mut self) -> Result<(), AllocError>
@@ -26,35 +18,31 @@ impl<T> SetTable<T> {
         ensures fits { HasListRoom self.old → IsOk result }
         ensures only { OnlySettings (settings_of self.old) self.old self.new }
     {
-        self.lists.reserve(KEPT + 1)
+        self.kept.reserve(1)?;
+        self.users.reserve()
     }
 
-    /// Adds a list without slots, in reserved memory.
-    fn add_list(&mut self)
-        requires { lists_of self.old < vec_capacity self.old.lists }
-        ensures only { OnlySettings (record (settings_of self.old)
-            { lists = lists_of self.old + 1 }) self.old self.new }
-        ensures room { vec_capacity self.new.lists ≡ vec_capacity self.old.lists }
-    {
-        self.lists.push_reserved(ListHead {
-            chain: Chain { first: 0, count: 0 },
-            generation: 0,
-        });
-    }
-
-    /// Adds a layout, in reserved memory.
+    /// Adds a layout under the next number, in reserved memory.
     pub fn add_layout(&mut self)
         requires room { HasListRoom self.old }
         ensures { OnlySettings (record (settings_of self.old)
-            { lists = lists_with (lists_of self.old) }) self.old self.new }
+            { layouts = layouts_of self.old + 1 }) self.old self.new }
     {
-        if self.lists.len() > 0 {
-            self.add_list();
-            return;
-        }
-        self.add_list();
-        self.add_list();
-        self.add_list();
+        self.kept.push_reserved(Chain::EMPTY);
+        self.users.add();
+    }
+
+    /// Adds a layout under the number of a removed one of which no set is left. `None` if there is no
+    /// such number.
+    #[inline]
+    pub fn renew_layout(&mut self) -> Option<u32>
+        ensures renews { IfSome result (λ layout. Renewed layout self.old self.new) }
+        ensures none { result ≡ None → AreNoneFree self.old × OnlySettings (settings_of self.old)
+            self.old self.new }
+    {
+        let layout = self.users.take()?;
+        self.kept[layout as usize] = Chain::EMPTY;
+        Some(layout)
     }
 
     /// The set of a slot isn't kept once it is freed.
@@ -75,17 +63,15 @@ impl<T> SetTable<T> {
         }
     }
 
-    /// Removes a layout that has no kept set. Its other sets aren't kept once they are freed, not even
-    /// when another layout has its number.
+    /// Removes a layout that has no kept set. Its other sets aren't kept once they are freed. No layout gets
+    /// its number before all of them are.
     pub fn remove_layout(&mut self, layout: u32)
-        requires layout { layout + 2 < lists_of self.old }
+        requires layout { HasLayout layout self.old }
         requires none_kept { (p : ℕ) → is_kept_of layout (slot_at (slots_of self.old) p) ≡ false }
-        requires next { generations_of self.old layout < 4294967295 }
-        ensures only { OnlySettings (record (settings_of self.old)
-            { generations = removed_at layout (generations_of self.old) }) self.old self.new }
-        ensures past { (p : ℕ) → (slot_at (slots_of self.new) p).layout ≡ layout → (slot_at
-            (slots_of self.new) p).layout_generation < generations_of self.new layout }
+        ensures { OnlySettings (record (settings_of self.old)
+            { removed = removed_with layout (removed_of self.old) }) self.old self.new }
     {
-        self.lists[layout as usize + KEPT].generation += 1;
+        self.kept[layout as usize] = Chain::REMOVED;
+        self.users.leave(layout as usize);
     }
 }

@@ -2,65 +2,82 @@
 ghost use Rattle.std.specs.Prelude.{◌≡◌, ◌==◌, ◌+◌, ◌<◌, ◌≤◌, IfSome, IsTrue, is_some, length, true, false, ℕ};
 
 use super::waiting::enqueue;
-use super::{GOING, GROUPS, KEPT, SetTable};
+use super::{GROUPS, SetTable};
 use crate::giving::Group;
 use crate::handle::{SetHandle, SetName};
 use crate::slot::{Chain, Use};
 
 impl<T> SetTable<T> {
-    ghost use Rattle.descriptor_table.specs.Giving.{is_of};
-    ghost use Rattle.descriptor_table.specs.Slots.{IsNowhere, chain_at, chains_in, frame_of, goes, is_in, is_kept_of, is_live, slot_at};
-    ghost use Rattle.descriptor_table.specs.Tables.{At, Changes, PicksAny, Renews, Stays, count};
-    ghost use Rattle.descriptor_table.specs.Tables.{generations_of, is_kept, lists_of};
+    ghost use Rattle.descriptor_table.specs.Giving.{is_of, list_of};
+    ghost use Rattle.descriptor_table.specs.Slots.{IsNowhere, chain_at, count, frame_of, goes, is_kept_of, is_live, slot_at};
+    ghost use Rattle.descriptor_table.specs.Tables.{At, Changes, HasLayout, PicksAny, Renews, Stays};
+    ghost use Rattle.descriptor_table.specs.Tables.{chains_of, removed_of};
     ghost use Rattle.descriptor_table.specs.Tables.{slots_of, used_for};
 
-    /// A list by its number; an empty one if there is no such list.
+    /// The list of a group, empty if there is no such layout.
     #[inline]
-    pub(super) fn chain(&self, list: usize) -> Chain
-        ensures chain { result ≡ chain_at (chains_in self.now.lists.items) list }
-        ensures count { result.count ≡ count (is_in list) (slots_of self.now) }
+    fn list(&self, group: Group) -> Chain
+        ensures list { result ≡ chain_at (chains_of self.now) (list_of group) }
+        ensures count { result.count ≡ count (is_of group) (slots_of self.now) }
     {
-        match self.lists.get(list) {
-            Some(head) => head.chain,
-            None => Chain { first: 0, count: 0 },
+        match group {
+            Group::Going => self.going,
+            Group::KeptOf(layout) => match self.kept.get(layout) {
+                Some(list) => list.shown(),
+                None => Chain::EMPTY,
+            },
         }
     }
 
-    /// Takes the first slot out of a list.
+    /// How many sets are in a group.
     #[inline]
-    pub(super) fn pick(&mut self, list: usize) -> Option<usize>
-        ensures { Changes (PicksAny (is_in list) result) self.old self.new }
+    pub(super) fn count(&self, group: Group) -> u32
+        ensures { result ≡ count (is_of group) (slots_of self.now) }
     {
-        let head = self.lists.get_mut(list)?;
-        if head.chain.count == 0 {
+        self.list(group).count
+    }
+
+    /// Takes the first set out of the list of a group.
+    #[inline]
+    pub(super) fn pick(&mut self, group: Group) -> Option<usize>
+        ensures { Changes (PicksAny (is_of group) result) self.old self.new }
+    {
+        let list = self.list(group);
+        if list.count == 0 {
             return None;
         }
-        let place = head.chain.first as usize;
+        let place = list.first as usize;
         let next = self.slots.at(place).next;
         self.slots.set_use(place, Use::Taken);
-        head.chain.first = next;
-        head.chain.count -= 1;
+        match group {
+            Group::Going => self.going.pop(next),
+            Group::KeptOf(layout) => self.kept[layout].pop(next),
+        }
         Some(place)
     }
 
-    /// Puts a slot that is in no list first in one.
+    /// Puts a set that is in no list first in that of a group.
     #[inline]
-    pub(super) fn link(&mut self, list: usize, place: usize, used: Use)
-        requires list { list < lists_of self.old }
+    pub(super) fn link(&mut self, group: Group, place: usize, used: Use)
         requires within { place < length (slots_of self.old) }
         requires idle { IsNowhere (slot_at (slots_of self.old) place).used }
-        requires goes { is_in list (used_for used (slot_at (slots_of self.old) place)) ≡ true }
-        requires current { is_kept (used_for used (slot_at (slots_of self.old) place)) ≡ true
-            → (slot_at (slots_of self.old) place).layout_generation ≡ generations_of self.old
-            (slot_at (slots_of self.old) place).layout }
-        requires few { 2 ≤ list → (chain_at (chains_in self.old.lists.items)
-            list).count < self.old.keep }
+        requires goes { is_of group (used_for used (slot_at (slots_of self.old) place)) ≡ true }
+        requires there { 2 ≤ list_of group → removed_of self.old (slot_at (slots_of self.old) place).layout
+            ≡ false }
+        requires few { 2 ≤ list_of group → count (is_of group) (slots_of self.old) < self.old.keep }
         ensures { Changes (At place (used_for used)) self.old self.new }
     {
-        let head = &mut self.lists[list];
-        self.slots.link(place, head.chain.first, used);
-        head.chain.first = place as u32;
-        head.chain.count += 1;
+        match group {
+            Group::Going => {
+                self.slots.link(place, self.going.first, used);
+                self.going.push(place as u32);
+            }
+            Group::KeptOf(layout) => {
+                let list = &mut self.kept[layout];
+                self.slots.link(place, list.first, used);
+                list.push(place as u32);
+            }
+        }
     }
 
     /// Whether a set of a group goes at a place.
@@ -78,20 +95,18 @@ impl<T> SetTable<T> {
     #[inline]
     fn link_after(&mut self, near: usize, place: usize)
         requires near { goes (slot_at (slots_of self.old) near) ≡ true }
-        requires list { 1 < lists_of self.old }
         requires within { place < length (slots_of self.old) }
         requires idle { IsNowhere (slot_at (slots_of self.old) place).used }
         requires full { is_some (slot_at (slots_of self.old) place).set ≡ true }
         ensures { Changes (At place (used_for Use.Going)) self.old self.new }
     {
         self.slots.link_after(near, place as u32, Use::Going);
-        self.lists[GOING].chain.count += 1;
+        self.going.count += 1;
     }
 
     /// Lets a set go that is in no list, after the last one of its group if that goes.
     #[inline(always)]
     pub(super) fn let_go(&mut self, place: usize)
-        requires list { 1 < lists_of self.old }
         requires within { place < length (slots_of self.old) }
         requires idle { IsNowhere (slot_at (slots_of self.old) place).used }
         requires full { is_some (slot_at (slots_of self.old) place).set ≡ true }
@@ -105,7 +120,7 @@ impl<T> SetTable<T> {
             self.link_after(near as usize, place);
             return;
         }
-        self.link(GOING, place, Use::Going);
+        self.link(Group::Going, place, Use::Going);
     }
 
     /// Takes a kept set of a layout, puts it to a use under its next handle, and returns its name.
@@ -120,12 +135,10 @@ impl<T> SetTable<T> {
         ensures fits { N.fit result (slot_at (slots_of self.new) (N.handle_of result).place).set ≡ true }
         ensures stays { Stays self.old self.new }
     {
-        let head = &mut self.lists[layout as usize + KEPT];
-        let place = head.chain.first;
-        let next = self.slots.at(place as usize).next;
+        let list = &mut self.kept[layout as usize];
+        let place = list.first;
+        list.pop(self.slots.at(place as usize).next);
         let generation = self.slots.renew(place as usize, used);
-        head.chain.first = next;
-        head.chain.count -= 1;
         let handle = SetHandle {
             manager: self.number,
             place,
@@ -145,11 +158,11 @@ impl<T> SetTable<T> {
     /// How many sets of a layout are kept.
     #[inline]
     pub fn kept_count(&self, layout: u32) -> u32
-        requires { layout + 2 < lists_of self.now }
+        requires { HasLayout layout self.now }
         ensures count { result ≡ count (is_kept_of layout) (slots_of self.now) }
         ensures few { result ≤ self.now.keep }
     {
-        self.kept_list(layout).chain.count
+        self.kept[layout as usize].count
     }
 
     /// Whether a group is empty.
@@ -157,9 +170,6 @@ impl<T> SetTable<T> {
     pub fn is_empty(&self, group: Group) -> bool
         ensures { result ≡ (count (is_of group) (slots_of self.now) == 0) }
     {
-        match group {
-            Group::Going => self.chain(GOING).count == 0,
-            Group::KeptOf(layout) => self.chain(layout as usize + KEPT).count == 0,
-        }
+        self.count(group) == 0
     }
 }

@@ -71,9 +71,27 @@ impl<L, P, S, D: DescriptorDevice<L, P, S>> SetManager<L, P, S, D> {
         }
     }
 
-    /// Adds a layout and returns its handle, which is never given again. If memory runs out, or if
-    /// `u32::MAX` layouts are there already, it returns the layout in the error, and nothing changes.
+    /// Adds a layout and returns its handle, which is never given again. A removed layout's memory is used
+    /// again once all its sets are back in their pools. If memory runs out, or if there are `u32::MAX` layouts
+    /// with the removed ones of which sets are left, it returns the layout in the error, and nothing changes.
     pub fn add_layout(
+        &mut self,
+        layout: SetLayout<L>,
+    ) -> Result<LayoutHandle, AllocFailed<SetLayout<L>>>
+    {
+        if let Some(number) = self.store.renew_layout() {
+            if self.layouts.is_usable(number) {
+                return Ok(self.layouts.renew(number, layout));
+            }
+        }
+        self.add_number(layout)
+    }
+
+    /// Adds a layout under a new number. It is out of line, so that a layout that gets the number of a removed
+    /// one saves no registers for it.
+    #[cold]
+    #[inline(never)]
+    fn add_number(
         &mut self,
         layout: SetLayout<L>,
     ) -> Result<LayoutHandle, AllocFailed<SetLayout<L>>>
@@ -81,12 +99,8 @@ impl<L, P, S, D: DescriptorDevice<L, P, S>> SetManager<L, P, S, D> {
         if self.store.reserve_layout().is_err() || self.layouts.reserve().is_err() {
             return Err(AllocFailed { value: layout });
         }
-        let places = self.layouts.places();
-        let handle = self.layouts.add(layout);
-        if self.layouts.places() > places {
-            self.store.add_layout();
-        }
-        Ok(handle)
+        self.store.add_layout();
+        Ok(self.layouts.add(layout))
     }
 
     /// Removes a layout and returns it. Its handle is invalid from now on. The layout's kept sets return

@@ -53,10 +53,17 @@ impl<L, P, S, D: DescriptorDevice<L, P, S>> Store<L, P, S, D> {
         self.table.reserve_layout()
     }
 
-    /// Adds a layout into reserved memory.
+    /// Adds a layout under the next number, in reserved memory.
     pub(crate) fn add_layout(&mut self)
     {
         self.table.add_layout();
+    }
+
+    /// Adds a layout under the number of a removed one of which no set is left. `None` if there is no
+    /// such number.
+    pub(crate) fn renew_layout(&mut self) -> Option<u32>
+    {
+        self.table.renew_layout()
     }
 
     /// Reserves memory in the table for `many` more sets.

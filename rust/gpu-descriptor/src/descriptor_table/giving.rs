@@ -10,7 +10,7 @@ pub enum Group {
     Going,
 
     /// The kept ones of a layout.
-    KeptOf(u32),
+    KeptOf(usize),
 }
 
 /// Takes the sets of a group out of their slots, one by one, until none is left.

@@ -4,11 +4,14 @@
 
 mod giving;
 mod handle;
+mod handle_table;
 mod set_table;
 mod slot;
 mod slot_list;
+mod users;
 
 pub use giving::{Giving, Group};
 pub use handle::{SetHandle, SetName, place_of};
+pub use handle_table::HandleTable;
 pub use set_table::SetTable;
 pub use slot::Use;

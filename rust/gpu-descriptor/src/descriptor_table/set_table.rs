@@ -10,26 +10,18 @@ mod sets;
 mod waiting;
 
 use crate::descriptor_table::handle::{SetHandle, SetName};
-use crate::descriptor_table::slot::{ListHead, Use};
-use crate::descriptor_table::slot_list::{Entry, SlotList};
+use crate::descriptor_table::slot::{Chain, Use};
+use crate::descriptor_table::slot_list::SlotList;
+use crate::descriptor_table::users::LayoutUsers;
 use crate::kit::alloc::{AllocError, Global};
 use crate::kit::collections::VecDeque;
 use crate::kit::vec::Vec;
 
 /// The max number of slots.
-const MAX_SLOTS: u64 = u32::MAX as u64;
-
-/// The list of the slots without a set.
-pub(crate) const VACANT: usize = 0;
-
-/// The list of the sets that return to their pools.
-pub(crate) const GOING: usize = 1;
+const MAX_SLOTS: u64 = u32::MAX as u64 - 1;
 
 /// How many groups of sets that go there are.
 pub(crate) const GROUPS: usize = 8;
-
-/// The list of the kept sets of the first layout.
-pub(crate) const KEPT: usize = 2;
 
 /// A set manager's sets, each in a slot.
 pub struct SetTable<T> {
@@ -37,8 +29,15 @@ pub struct SetTable<T> {
     pub(crate) number: u64,
     pub(crate) slots: SlotList<T>,
 
-    /// The lists, except those of sets that wait.
-    pub(crate) lists: Vec<ListHead>,
+    /// The slots without a set.
+    pub(crate) vacant: Chain,
+
+    /// The sets that return to their pools.
+    pub(crate) going: Chain,
+
+    /// The kept sets of each layout, by its number.
+    pub(crate) kept: Vec<Chain>,
+    pub(crate) users: LayoutUsers,
 
     /// The places of the sets that wait for a frame, by rising frame.
     pub(crate) waiting: VecDeque<u32>,
@@ -60,7 +59,10 @@ impl<T> SetTable<T> {
         SetTable {
             number,
             slots: SlotList::new(alloc),
-            lists: Vec::new(alloc),
+            vacant: Chain::EMPTY,
+            going: Chain::EMPTY,
+            kept: Vec::new(alloc),
+            users: LayoutUsers::new(alloc),
             waiting: VecDeque::new(alloc),
             keep: u32::MAX,
             newest: 0,
@@ -68,40 +70,22 @@ impl<T> SetTable<T> {
         }
     }
 
-    /// The slot whose last handle this is.
-    #[inline]
-    fn last_slot(&self, handle: SetHandle) -> Option<&Entry<T>>
-    {
-        if handle.manager != self.number {
-            return None;
-        }
-        let slot = self.slots.get(handle.place)?;
-        (slot.generation == handle.generation).then_some(slot)
-    }
-
     /// The set of a handle, while `frame` is the open frame if `is_open`.
     #[inline]
     pub fn get(&self, handle: SetHandle, frame: u64, is_open: bool) -> Option<&T>
     {
-        let slot = self.last_slot(handle)?;
+        let slot = self.slots.last(self.number, handle)?;
         if !slot.used().is_live(frame, is_open) {
             return None;
         }
         slot.set.as_ref()
     }
 
-    /// The set in the slot whose last handle this is, whatever it is in use for.
-    #[inline]
-    pub fn get_last(&self, handle: SetHandle) -> Option<&T>
-    {
-        self.last_slot(handle)?.set.as_ref()
-    }
-
     /// Whether a name is that of a held set.
     #[inline]
     fn holds<N: SetName<T>>(&self, name: &N) -> bool
     {
-        let Some(slot) = self.last_slot(name.handle()) else {
+        let Some(slot) = self.slots.last(self.number, name.handle()) else {
             return false;
         };
         match slot.used() {
@@ -116,7 +100,7 @@ impl<T> SetTable<T> {
     #[inline]
     pub fn reserve(&mut self, additional: u32) -> Result<(), AllocError>
     {
-        let vacant = self.chain(VACANT).count;
+        let vacant = self.vacant.count;
         if additional <= vacant {
             return Ok(());
         }

@@ -104,12 +104,40 @@ pub struct Chain {
     pub(crate) count: u32,
 }
 
-/// One of a table's lists, except those of sets that wait.
-#[derive(Clone, Copy)]
-pub struct ListHead {
-    pub(crate) chain: Chain,
+impl Chain {
+    /// A list without slots.
+    pub(crate) const EMPTY: Self = Chain { first: 0, count: 0 };
 
-    /// How many layouts of this list's number were removed. A set of one of these isn't kept once it is
-    /// freed.
-    pub(crate) generation: u32,
+    /// The list of a removed layout, in which no set is kept: it is never below a max.
+    pub(crate) const REMOVED: Self = Chain {
+        first: 0,
+        count: u32::MAX,
+    };
+
+    /// The list, empty if it is that of a removed layout.
+    #[inline]
+    pub(crate) fn shown(self) -> Chain
+    {
+        if self.count == u32::MAX {
+            Chain::EMPTY
+        } else {
+            self
+        }
+    }
+
+    /// Makes a slot the first of the list. Its next is to be the one that was first.
+    #[inline]
+    pub(crate) fn push(&mut self, place: u32)
+    {
+        self.first = place;
+        self.count += 1;
+    }
+
+    /// Takes the first slot from the list, with the one that comes next.
+    #[inline]
+    pub(crate) fn pop(&mut self, next: u32)
+    {
+        self.first = next;
+        self.count -= 1;
+    }
 }

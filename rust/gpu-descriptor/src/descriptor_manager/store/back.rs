@@ -86,10 +86,11 @@ impl<L, P, S, D: DescriptorDevice<L, P, S>> Store<L, P, S, D> {
     }
 
     /// Removes a layout: its kept sets return to their pools, and its other sets aren't kept once they
-    /// are freed, not even when another layout has its number. Then the empty pools of its key are destroyed.
+    /// are freed. Then the empty pools of its key are destroyed. No layout gets its number before all
+    /// its sets are back.
     pub(crate) fn remove_layout(&mut self, known: &SetLayout<L>, layout: u32)
     {
-        self.give(Group::KeptOf(layout));
+        self.give(Group::KeptOf(layout as usize));
         self.table.remove_layout(layout);
         self.allocator.trim_layout(&mut self.device, known);
     }

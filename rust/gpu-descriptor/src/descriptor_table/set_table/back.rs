@@ -2,27 +2,18 @@
 //! Sets that are freed: each is kept, or goes. A set that goes joins the list of those that return to
 //! their pools.
 
-use super::{KEPT, SetTable};
+use super::SetTable;
+use crate::descriptor_table::giving::Group;
 use crate::descriptor_table::handle::SetName;
-use crate::descriptor_table::slot::{ListHead, Use};
+use crate::descriptor_table::slot::Use;
 
 impl<T> SetTable<T> {
-    /// The list of a layout's kept sets.
-    #[inline]
-    pub(super) fn kept_list(&self, layout: u32) -> &ListHead
-    {
-        &self.lists[layout as usize + KEPT]
-    }
-
     /// Whether a set that is freed may be kept.
     #[inline]
     fn may_stay(&self, place: usize) -> bool
     {
         let slot = self.slots.at(place);
-        let list = self.kept_list(slot.layout);
-        slot.generation < slot.kept_below
-            && slot.layout_generation == list.generation
-            && list.chain.count < self.keep
+        slot.generation < slot.kept_below && self.kept[slot.layout as usize].count < self.keep
     }
 
     /// Keeps a set that is in no list, if it may be kept.
@@ -32,8 +23,8 @@ impl<T> SetTable<T> {
         if !self.may_stay(place) {
             return false;
         }
-        let list = self.slots.at(place).layout as usize + KEPT;
-        self.link(list, place, Use::Kept);
+        let layout = self.slots.at(place).layout as usize;
+        self.link(Group::KeptOf(layout), place, Use::Kept);
         true
     }
 
@@ -91,7 +82,9 @@ impl<T> SetTable<T> {
             return true;
         }
         // Some may not be kept. None goes before all are found to be held, so that sets that go can be grouped.
-        self.put_back(names, kept);
+        if kept > 0 {
+            self.put_back(names, kept);
+        }
         if !self.take_each(names) {
             return false;
         }
@@ -136,11 +129,11 @@ impl<T> SetTable<T> {
         }
     }
 
-    /// Lets kept sets of a list go, until at most `max` are left.
-    fn trim_list(&mut self, list: usize, max: u32)
+    /// Lets kept sets of a layout go, until at most `max` are left.
+    fn trim_layout(&mut self, layout: usize, max: u32)
     {
-        while self.chain(list).count > max {
-            match self.pick(list) {
+        while self.count(Group::KeptOf(layout)) > max {
+            match self.pick(Group::KeptOf(layout)) {
                 Some(place) => self.let_go(place),
                 None => unreachable!(),
             }
@@ -150,8 +143,8 @@ impl<T> SetTable<T> {
     /// Lets kept sets go, until at most `max` of each layout are left.
     pub fn trim(&mut self, max: u32)
     {
-        for list in KEPT..self.lists.len() {
-            self.trim_list(list, max);
+        for layout in 0..self.kept.len() {
+            self.trim_layout(layout, max);
         }
     }
 }

@@ -2,46 +2,65 @@
 //! The lists of slots without a set, of sets that go back to their pools, and of kept sets.
 
 use super::waiting::enqueue;
-use super::{GOING, GROUPS, KEPT, SetTable};
+use super::{GROUPS, SetTable};
 use crate::descriptor_table::giving::Group;
 use crate::descriptor_table::handle::{SetHandle, SetName};
 use crate::descriptor_table::slot::{Chain, Use};
 
 impl<T> SetTable<T> {
-    /// A list by its number; an empty one if there is no such list.
+    /// The list of a group, empty if there is no such layout.
     #[inline]
-    pub(super) fn chain(&self, list: usize) -> Chain
+    fn list(&self, group: Group) -> Chain
     {
-        match self.lists.get(list) {
-            Some(head) => head.chain,
-            None => Chain { first: 0, count: 0 },
+        match group {
+            Group::Going => self.going,
+            Group::KeptOf(layout) => match self.kept.get(layout) {
+                Some(list) => list.shown(),
+                None => Chain::EMPTY,
+            },
         }
     }
 
-    /// Takes the first slot out of a list.
+    /// How many sets are in a group.
     #[inline]
-    pub(super) fn pick(&mut self, list: usize) -> Option<usize>
+    pub(super) fn count(&self, group: Group) -> u32
     {
-        let head = self.lists.get_mut(list)?;
-        if head.chain.count == 0 {
+        self.list(group).count
+    }
+
+    /// Takes the first set out of the list of a group.
+    #[inline]
+    pub(super) fn pick(&mut self, group: Group) -> Option<usize>
+    {
+        let list = self.list(group);
+        if list.count == 0 {
             return None;
         }
-        let place = head.chain.first as usize;
+        let place = list.first as usize;
         let next = self.slots.at(place).next;
         self.slots.set_use(place, Use::Taken);
-        head.chain.first = next;
-        head.chain.count -= 1;
+        match group {
+            Group::Going => self.going.pop(next),
+            Group::KeptOf(layout) => self.kept[layout].pop(next),
+        }
         Some(place)
     }
 
-    /// Puts a slot that is in no list first in one.
+    /// Puts a set that is in no list first in that of a group.
     #[inline]
-    pub(super) fn link(&mut self, list: usize, place: usize, used: Use)
+    pub(super) fn link(&mut self, group: Group, place: usize, used: Use)
     {
-        let head = &mut self.lists[list];
-        self.slots.link(place, head.chain.first, used);
-        head.chain.first = place as u32;
-        head.chain.count += 1;
+        match group {
+            Group::Going => {
+                self.slots.link(place, self.going.first, used);
+                self.going.push(place as u32);
+            }
+            Group::KeptOf(layout) => {
+                let list = &mut self.kept[layout];
+                self.slots.link(place, list.first, used);
+                list.push(place as u32);
+            }
+        }
     }
 
     /// Whether a set of a group goes at a place.
@@ -59,7 +78,7 @@ impl<T> SetTable<T> {
     fn link_after(&mut self, near: usize, place: usize)
     {
         self.slots.link_after(near, place as u32, Use::Going);
-        self.lists[GOING].chain.count += 1;
+        self.going.count += 1;
     }
 
     /// Lets a set go that is in no list, after the last one of its group if that goes.
@@ -74,19 +93,17 @@ impl<T> SetTable<T> {
             self.link_after(near as usize, place);
             return;
         }
-        self.link(GOING, place, Use::Going);
+        self.link(Group::Going, place, Use::Going);
     }
 
     /// Takes a kept set of a layout, puts it to a use under its next handle, and returns its name.
     #[inline(always)]
     pub fn hold_kept<N: SetName<T>>(&mut self, layout: u32, used: Use) -> N
     {
-        let head = &mut self.lists[layout as usize + KEPT];
-        let place = head.chain.first;
-        let next = self.slots.at(place as usize).next;
+        let list = &mut self.kept[layout as usize];
+        let place = list.first;
+        list.pop(self.slots.at(place as usize).next);
         let generation = self.slots.renew(place as usize, used);
-        head.chain.first = next;
-        head.chain.count -= 1;
         let handle = SetHandle {
             manager: self.number,
             place,
@@ -107,16 +124,13 @@ impl<T> SetTable<T> {
     #[inline]
     pub fn kept_count(&self, layout: u32) -> u32
     {
-        self.kept_list(layout).chain.count
+        self.kept[layout as usize].count
     }
 
     /// Whether a group is empty.
     #[inline]
     pub fn is_empty(&self, group: Group) -> bool
     {
-        match group {
-            Group::Going => self.chain(GOING).count == 0,
-            Group::KeptOf(layout) => self.chain(layout as usize + KEPT).count == 0,
-        }
+        self.count(group) == 0
     }
 }

@@ -1,79 +1,81 @@
-use Rattle.std.proofs.Common.{false, ◌≡◌, ◌≢◌, ◌<◌, ℕ, suc, [], ◌∷◌, length, slice_index_or, refl, sym, ap, ◌∙◌, subst, arith, rules}
-use Rattle.descriptor_table.specs.Sets.{find, is_given}
-use Rattle.descriptor_table.specs.Tables.{Settings, Grows, lists_with}
-use Rattle.descriptor_table.specs.declared.handle.SetHandle.{SetHandle}
-use Rattle.descriptor_manager.specs.LayoutRegistries.{layout_slots, registry_of}
-use Rattle.descriptor_manager.specs.Own.{HasSetsOf}
-use Rattle.descriptor_manager.specs.Stores.{lists_for}
-use Rattle.descriptor_manager.proofs.Owned.{lists_more, sets_as}
-use Rattle.descriptor_manager.proofs.manager.SetManager.add_layout.Goals.{After-reserve, After-reserve_layout, Joined-places, then-places, else-places}
+use Rattle.std.proofs.Common.{◌≡◌, ◌<◌, inl, inr, refl, sym, ap, ◌∙◌, subst, arith}
+use Rattle.std.specs.Prelude.{OnErr}
+use Rattle.descriptor_table.specs.Slots.{slot_at}
+use Rattle.descriptor_table.specs.Tables.{Settings, is_usable}
+use Rattle.descriptor_table.proofs.Counting.{same_or}
+use Rattle.descriptor_table.proofs.Listed.{test_within}
+use Rattle.descriptor_manager.specs.LayoutRegistries.{layout_slots}
+use Rattle.descriptor_manager.specs.Managers.{seen}
+use Rattle.descriptor_manager.specs.Stores.{removed_in}
+use Rattle.descriptor_manager.proofs.Numbering.{apart_from, gone, number_left, seen_kept, sets_lost, sets_more, without_here, without_other}
+use Rattle.descriptor_manager.proofs.Owned.{layout_here}
+use Rattle.descriptor_manager.proofs.manager.SetManager.add_layout.Goals.{in-Some+else-is_usable, in_default}
 use Rattle.descriptor_manager.proofs.manager.SetManager.add_layout.Goals as goal
 
--- the sets, once memory is reserved
-reserved : (g : _) (c : After-reserve_layout g) → HasSetsOf (layout_slots c.args.self.now.layouts) c.args.self.now.manager c.reserve_layout.new.self
-reserved g c =
-    let old = c.args.self.now in
-    let now = c.reserve_layout.ensures in
-    let s = now.stays.settings in
-    sets_as _ _ _ _ _ now.contents.slots (ap (λ (s : Settings). s.generations) s) now.contents.coming (ap (λ (s : Settings). s.number) s)
-    (ap (λ (s : Settings). s.lists) s ∙ old.sets.lists) (λ n known is. is) (λ counted. counted) old.sets
+pub is_usable-requires-clause-within : goal.is_usable-requires-clause-within
+is_usable-requires-clause-within g c = subst (λ n. c.in-Some.number < n) c.args.self.now.sets.numbers c.in-Some.ensures.renews.within
 
+pub is_usable-requires-clause-empty : goal.is_usable-requires-clause-empty
+is_usable-requires-clause-empty g c = number_left _ _ _ _ c.in-Some.ensures.renews.removed c.args.self.now.sets
+
+-- the number of a removed layout has another one
 pub invariant_of-self-clause-sets : goal.invariant_of-self-clause-sets
-invariant_of-self-clause-sets g c = reserved g (goal.at.invariant_of-self-clause-sets g c).After-reserve_layout
+invariant_of-self-clause-sets g c =
+    let old = c.args.self.now in
+    let number = c.in-Some.number in
+    let r = c.in-Some.ensures.renews in
+    let s = r.only.settings in
+    sets_more old.store c.renew_layout.new.self number c.args.layout c.in-Some.ensures.contents (ap (λ (s : Settings). s.number) s)
+    (ap (λ (s : Settings). s.layouts) s ∙ old.sets.numbers ∙ sym c.renew.ensures.long) c.renew.ensures.others
+    (layout_here c.renew.new.self c.renew.result c.args.layout number (sym c.renew.ensures.place) c.renew.ensures.added) r.none
+    (ap (λ (s : Settings). s.removed number) s ∙ without_here number number (removed_in old.store) refl)
+    (λ n ne. inl (ap (λ (s : Settings). s.removed n) s ∙ without_other number n (removed_in old.store) ne))
+    old.sets
 
--- and once memory for the layout is, too
-reserved_both : (g : _) (c : After-reserve g) → HasSetsOf (layout_slots c.args.self.now.layouts) c.args.self.now.manager c.reserve_layout.new.self → HasSetsOf (layout_slots c.reserve.new.self) c.args.self.now.manager c.reserve_layout.new.self
-reserved_both g c was = subst (λ l. HasSetsOf l c.args.self.now.manager c.reserve_layout.new.self) (sym c.reserve.ensures.keeps.slots) was
+pub returns-then-is_usable-clause-given : goal.returns-then-is_usable-clause-given
+returns-then-is_usable-clause-given g c = c.renew.ensures.names.given 0 c.renew.result.slot (omega arith)
 
-pub invariant_of-self-then-is_err-2-clause-sets : goal.invariant_of-self-then-is_err-2-clause-sets
-invariant_of-self-then-is_err-2-clause-sets g c = let d = goal.at.invariant_of-self-then-is_err-2-clause-sets g c in reserved_both g d.After-reserve (reserved g d.After-reserve_layout)
+pub returns-then-is_usable-clause-never : goal.returns-then-is_usable-clause-never
+returns-then-is_usable-clause-never g c = c.renew.ensures.names.never 0 c.renew.result.slot (omega arith)
 
-pub invariant_of-self-then-places-clause-sets : goal.invariant_of-self-then-places-clause-sets
-invariant_of-self-then-places-clause-sets g c =
-    let d = goal.at.invariant_of-self-then-places-clause-sets g c in
-    let long : suc (length (layout_slots c.reserve.new.self)) ≡ length (layout_slots c.add-handle.new.self) = omega (arith, c.add-handle.ensures.one) in
-    let now = c.add_layout.ensures in
-    let s = now.settings in
-    let sets = reserved_both g d.After-reserve (reserved g d.After-reserve_layout) in
-    let lists = ap (λ (s : Settings). s.lists) s ∙ ap lists_with sets.lists ∙ lists_more _ ∙ ap lists_for long in
-    sets_as _ _ _ _ _ now.contents.slots (ap (λ (s : Settings). s.generations) s) now.contents.coming (ap (λ (s : Settings). s.number) s)
-    lists c.add-handle.ensures.stay (c.add-handle.ensures.counted _) sets
+pub returns-then-is_usable-clause-others : goal.returns-then-is_usable-clause-others
+returns-then-is_usable-clause-others g c = λ other ne. c.renew.ensures.names.others other.slot (apart_from c.renew.result.slot other.slot (λ e. ne (λ i. record { slot = e i })))
 
-pub invariant_of-self-else-places-clause-sets : goal.invariant_of-self-else-places-clause-sets
-invariant_of-self-else-places-clause-sets g c =
-    let d = goal.at.invariant_of-self-else-places-clause-sets g c in
-    let long : length (layout_slots c.reserve.new.self) ≡ length (layout_slots c.add-handle.new.self) = omega (arith, c.add-handle.ensures.one) in
-    let sets = reserved_both g d.After-reserve (reserved g d.After-reserve_layout) in
-    sets_as _ _ _ _ _ refl refl refl refl (sets.lists ∙ ap lists_for long) c.add-handle.ensures.stay (c.add-handle.ensures.counted _) sets
+-- a number whose last handle was given is lost
+pub invariant_of-self-else-is_usable-clause-sets : goal.invariant_of-self-else-is_usable-clause-sets
+invariant_of-self-else-is_usable-clause-sets g c =
+    let old = c.args.self.now in
+    let number = c.in-Some.number in
+    let s = c.in-Some.ensures.renews.only.settings in
+    sets_lost old.store c.renew_layout.new.self c.in-Some.ensures.contents (ap (λ (s : Settings). s.number) s) (ap (λ (s : Settings). s.layouts) s)
+    (λ n. elim (same_or n number) [
+      | inl e ↦ inr (ap (λ (s : Settings). s.removed n) s ∙ without_here number n (removed_in old.store) e, ap (λ n. is_usable (slot_at (layout_slots old.layouts) n)) e ∙ sym c.is_usable.ensures.usable ∙ c.if-is_usable.false)
+      | inr ne ↦ inl (ap (λ (s : Settings). s.removed n) s ∙ without_other number n (removed_in old.store) ne)
+    ])
+    old.sets
 
--- the layouts at the end
-layouts_then : (g : _) (c : Joined-places g) → c.if-places.self.layouts ≡ c.add-handle.new.self
-layouts_then g c = elim c.if-places.branch [
-  | then-places w ↦ ap (λ m. m.layouts) w.self-is
-  | else-places w ↦ ap (λ m. m.layouts) w.self-is
-]
+pub invariant_of-self-in_default-clause-sets : goal.invariant_of-self-in_default-clause-sets
+invariant_of-self-in_default-clause-sets g c =
+    let old = c.args.self.now in
+    let s = (c.renew_layout.ensures.none (gone c.renew_layout.result c.in_default.not-Some)).1.settings in
+    sets_lost old.store c.renew_layout.new.self c.renew_layout.ensures.contents (ap (λ (s : Settings). s.number) s) (ap (λ (s : Settings). s.layouts) s) (λ n. inl (ap (λ (s : Settings). s.removed n) s)) old.sets
 
 pub returns-clause-grows : goal.returns-clause-grows
-returns-clause-grows g c = subst (λ r. Grows (layout_slots c.args.self.now.layouts) (layout_slots r)) (sym (layouts_then g (goal.at.returns-clause-grows g c).Joined-places)) (subst (λ l. Grows l (layout_slots c.add-handle.new.self)) c.reserve.ensures.keeps.slots c.add-handle.ensures.grows)
+returns-clause-grows g c =
+    let old = c.args.self.now in
+    inr (elim c.match-renew_layout.branch [
+      | in-Some+else-is_usable w ↦ inr (w.in-Some.number, number_left _ _ _ w.in-Some.number w.in-Some.ensures.renews.removed old.sets, w.if-is_usable.ensures.last refl)
+      | in_default w ↦
+          let none = (c.renew_layout.ensures.none (gone c.renew_layout.result w.in_default.not-Some)).0 in
+          inl (λ n usable. none n (subst (λ l. n < l) (sym old.sets.numbers) (test_within is_usable (layout_slots old.layouts) n refl usable)) (old.sets.free n usable))
+    ])
 
-pub returns-clause-never : goal.returns-clause-never
-returns-clause-never g c =
-    let keeps = c.reserve.ensures.keeps in
-    let h = c.add-handle.result.slot in
-    ap (λ n. is_given n (layout_slots c.args.self.now.layouts) h) (sym keeps.registry) ∙ ap (λ l. is_given (registry_of c.reserve.new.self) l h) (sym keeps.slots) ∙ c.add-handle.ensures.names.never 0 h (omega arith)
+-- what is seen is as it was
+seen_same : (g : _) (c : goal.After-add_number g) → seen c.match-renew_layout.self ≡ seen c.args.self.now
+seen_same g c = elim c.match-renew_layout.branch [
+  | in-Some+else-is_usable w ↦ ap seen w.self-is ∙ seen_kept c.args.self.now c.renew_layout.new.self c.renew_layout.ensures.contents (ap (λ (s : Settings). s.keep) w.in-Some.ensures.renews.only.settings)
+  | in_default w ↦ ap seen w.self-is ∙ seen_kept c.args.self.now c.renew_layout.new.self c.renew_layout.ensures.contents (ap (λ (s : Settings). s.keep) (c.renew_layout.ensures.none (gone c.renew_layout.result w.in_default.not-Some)).1.settings)
+]
 
--- another handle isn't the one of the list
-apart_from : (slot other : SetHandle) → other ≢ slot → (i : ℕ) (d : SetHandle) → i < length (slot ∷ []) → slice_index_or (slot ∷ []) i d ≢ other
-apart_from slot other ne x3 d lt = search rules
-
-pub returns-clause-others : goal.returns-clause-others
-returns-clause-others g c = λ other ne.
-    let o = other.slot in
-    let old = c.args.self.now.layouts in
-    let keeps = c.reserve.ensures.keeps in
-    let stay = c.add-handle.ensures.names.others o (apart_from c.add-handle.result.slot o (λ e. ne (λ i. record { slot = e i }))) in
-    subst (λ r. (find (registry_of r) 0 false (layout_slots r) o ≡ find (registry_of old) 0 false (layout_slots old) o) × (is_given (registry_of r) (layout_slots r) o ≡ is_given (registry_of old) (layout_slots old) o))
-    (sym (layouts_then g (goal.at.returns-clause-others g c).Joined-places)) (
-      stay.0 ∙ ap (λ n. find n 0 false (layout_slots c.reserve.new.self) o) keeps.registry ∙ ap (λ l. find (registry_of old) 0 false l o) keeps.slots,
-      stay.1 ∙ ap (λ n. is_given n (layout_slots c.reserve.new.self) o) keeps.registry ∙ ap (λ l. is_given (registry_of old) l o) keeps.slots,
-    )
+pub returns-clause-stay : goal.returns-clause-stay
+returns-clause-stay g c = subst (λ v. OnErr c.add_number.result (seen c.add_number.new.self ≡ v)) (seen_same g c) c.add_number.ensures.stay

@@ -2,7 +2,7 @@ use Rattle.std.proofs.Common.{refl, subst, ◌∙◌}
 use Rattle.descriptor_table.specs.Sets.{AreHeldOnce}
 use Rattle.descriptor_manager.specs.LayoutRegistries.{layout_slots}
 use Rattle.descriptor_manager.specs.Managers.{seen}
-use Rattle.descriptor_manager.specs.Stores.{NoneComes, generations_in, slots_in}
+use Rattle.descriptor_manager.specs.Stores.{NoneComes, removed_in, slots_in}
 use Rattle.descriptor_manager.proofs.Owned.{only_store, sets_settle}
 use Rattle.descriptor_manager.proofs.Showing.{freed_names}
 use Rattle.descriptor_manager.proofs.manager.SetManager.free.Goals as goal
@@ -10,14 +10,14 @@ use Rattle.descriptor_manager.proofs.manager.SetManager.free.Goals as goal
 pub invariant_of-self-clause-sets : goal.invariant_of-self-clause-sets
 invariant_of-self-clause-sets g c =
     sets_settle NoneComes (layout_slots c.args.self.now.layouts) c.args.self.now.manager c.args.self.now.store c.free_each.new.self c.free_each.ensures.settles
-    (λ n x none. absurd none) c.args.self.now.sets
+    (λ n x known none here. absurd none) c.args.self.now.sets
 
 pub returns-clause-names : goal.returns-clause-names
 returns-clause-names g c =
     let old = c.args.self.now in
     let once = subst (λ n. AreHeldOnce n (slots_in old.store) (g.N.SetName.handles_of c.args.sets.now)) old.sets.number (c.if-not-free_each.ensures.once.0 refl).0 in
     let frees = c.if-not-free_each.ensures.frees refl in
-    freed_names old.frame old.is_open (generations_in old.store) old.manager old.store.table.keep (g.N.SetName.handles_of c.args.sets.now) (slots_in old.store) (slots_in c.free_each.new.self) once frees.turns
+    freed_names old.frame old.is_open (removed_in old.store) old.manager old.store.table.keep (g.N.SetName.handles_of c.args.sets.now) (slots_in old.store) (slots_in c.free_each.new.self) once frees.turns
 
 pub returns-then-not-free_each-clause-stay : goal.returns-then-not-free_each-clause-stay
 returns-then-not-free_each-clause-stay g c = only_store c.args.self.now c.free_each.new.self c.free_each.ensures.settles.stays ∙ (λ i. record (seen c.args.self.now) { slots = (c.if-not-free_each.ensures.none refl).0 i; side = (c.if-not-free_each.ensures.none refl).1 i })

@@ -11,7 +11,7 @@ use Rattle.descriptor_manager.proofs.manager.SetManager.free_after.Goals as goal
 pub invariant_of-self-clause-sets : goal.invariant_of-self-clause-sets
 invariant_of-self-clause-sets g c =
     sets_settle NoneComes (layout_slots c.args.self.now.layouts) c.args.self.now.manager c.args.self.now.store c.wait_each.new.self c.wait_each.ensures.settles
-    (λ n x none. absurd none) c.args.self.now.sets
+    (λ n x known none here. absurd none) c.args.self.now.sets
 
 -- each handle has a held set
 held : (g : _) (c : Else-not-wait_each g) → AreHeldOnce c.args.self.now.manager (slots_in c.args.self.now.store) (g.N.SetName.handles_of c.args.sets.now)

@@ -5,6 +5,7 @@ use Rattle.descriptor_table.specs.Slots.{is_kept_of, slot_at}
 use Rattle.descriptor_table.specs.Tables.{place_at}
 use Rattle.descriptor_manager.specs.Stores.{kept_of, slots_in}
 use Rattle.descriptor_manager.proofs.Bringing.{Brings, brought}
+use Rattle.descriptor_manager.proofs.Joining.{layout_stays}
 use Rattle.descriptor_manager.proofs.Requests.{from_asked, from_refused}
 use Rattle.descriptor_manager.proofs.store.Store.allocate_new.Goals.{In_ok-bring}
 use Rattle.descriptor_manager.proofs.store.Store.allocate_new.Goals as goal
@@ -23,6 +24,9 @@ brings g c = brought c.args.known.now.layout c.args.layout 1 c.args.self.now c.b
 kept_first : (g : _) (c : In_ok-bring g) (handle : _) (i : ℕ) → i < length (handle ∷ []) → i < kept_of c.args.layout c.bring.new.self → is_kept_of c.args.layout (slot_at (slots_in c.bring.new.self) (place_at (handle ∷ []) i)) ≡ true
 kept_first g c handle zero lt some = absurd (let few = (brings g c).besides 0 (omega arith) some in let one = one g c in omega arith)
 kept_first g c handle (suc i) lt some = absurd (omega arith)
+
+pub hold_last-requires-clause-layout : goal.hold_last-requires-clause-layout
+hold_last-requires-clause-layout g c = layout_stays _ _ _ c.bring.ensures.stays c.requires.can.layout
 
 pub returns-in_err-bring : goal.returns-in_err-bring
 returns-in_err-bring g c =

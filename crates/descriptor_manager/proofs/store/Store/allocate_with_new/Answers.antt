@@ -8,11 +8,11 @@ use Rattle.descriptor_table.specs.Tables.{place_at}
 use Rattle.descriptor_table.specs.declared.handle.SetHandle.{SetHandle}
 use Rattle.descriptor_table.specs.declared.slot.Use.TheVariants.{Held}
 use Rattle.descriptor_table.proofs.Names.{handles_both, handles_long}
-use Rattle.descriptor_manager.specs.Stores.{ComesOf, HoldEach, current_in, kept_of, slots_in}
+use Rattle.descriptor_manager.specs.Stores.{ComesOf, HoldEach, kept_of, slots_in}
 use Rattle.descriptor_manager.proofs.Bringing.{Brings, brought}
 use Rattle.descriptor_manager.proofs.Fitting.{fit_both}
 use Rattle.descriptor_manager.proofs.Growing.{grow_more}
-use Rattle.descriptor_manager.proofs.Joining.{held_both, held_stays, kept_then, stays_then}
+use Rattle.descriptor_manager.proofs.Joining.{held_both, held_stays, kept_then, layout_stays, stays_then}
 use Rattle.descriptor_manager.proofs.Requests.{from_asked, from_refused}
 use Rattle.descriptor_manager.proofs.store.Store.allocate_with_new.Goals.{After-hold_coming}
 use Rattle.descriptor_manager.proofs.store.Store.allocate_with_new.Goals as goal
@@ -24,7 +24,7 @@ brings g c = brought c.args.known.now.layout c.args.layout (length c.args.names.
 both : (g : _) (c : After-hold_coming g) → g.N.SetName.handles_of (c.hold_kept.new.names ++ c.hold_coming.new.names) ≡ g.N.SetName.handles_of c.hold_kept.new.names ++ g.N.SetName.handles_of c.hold_coming.new.names
 both g c = handles_both g.N.SetName g.met.N.SetName.each c.hold_kept.new.names c.hold_coming.new.names
 
-all_held : (g : _) (c : After-hold_coming g) → HoldEach c.bring.new.self.table.number (current_in c.args.layout c.bring.new.self) Held (g.N.SetName.handles_of (c.hold_kept.new.names ++ c.hold_coming.new.names)) (slots_in c.bring.new.self) (slots_in c.hold_coming.new.self)
+all_held : (g : _) (c : After-hold_coming g) → HoldEach c.bring.new.self.table.number c.args.layout Held (g.N.SetName.handles_of (c.hold_kept.new.names ++ c.hold_coming.new.names)) (slots_in c.bring.new.self) (slots_in c.hold_coming.new.self)
 all_held g c = grind (arith, common_steps, both, brought, held_both)
 
 -- the kept ones have the first handles
@@ -44,6 +44,9 @@ first g c i lt some =
     subst (λ p. is_kept_of c.args.layout (slot_at (slots_in c.bring.new.self) p) ≡ true)
     (sym (ap (λ l. place_at l i) (both g c) ∙ ap (λ (h : SetHandle). h.place) (get_or_append_left a b (record { manager = 0; place = 0; generation = 0 }) i (omega arith))))
     (c.hold_kept.ensures.were_kept i (omega arith))
+
+pub hold_coming-requires-clause-layout : goal.hold_coming-requires-clause-layout
+hold_coming-requires-clause-layout g c = layout_stays _ _ _ (stays_then _ _ _ c.bring.ensures.stays c.hold_kept.ensures.keeps.stays) c.requires.can.layout
 
 pub returns-in_err-bring-clause-requests : goal.returns-in_err-bring-clause-requests
 returns-in_err-bring-clause-requests g c =
@@ -66,4 +69,4 @@ returns-clause-requests g c =
     c.hold_coming.ensures.none
 
 pub returns-clause-fit : goal.returns-clause-fit
-returns-clause-fit g c = fit_both g.N.SetName g.met.N.SetName.each c.bring.new.self.table.number (current_in c.args.layout c.bring.new.self) Held refl c.hold_kept.new.names c.hold_coming.new.names (slots_in c.bring.new.self) (slots_in c.hold_kept.new.self) (slots_in c.hold_coming.new.self) c.hold_kept.ensures.holds (held_stays c.args.layout Held (g.N.SetName.handles_of c.hold_coming.new.names) (slots_in c.hold_kept.new.self) (slots_in c.hold_coming.new.self) c.bring.new.self c.hold_kept.new.self c.hold_kept.ensures.keeps.stays c.hold_coming.ensures.holds) c.hold_kept.ensures.fit c.hold_coming.ensures.fit
+returns-clause-fit g c = fit_both g.N.SetName g.met.N.SetName.each c.bring.new.self.table.number c.args.layout Held refl c.hold_kept.new.names c.hold_coming.new.names (slots_in c.bring.new.self) (slots_in c.hold_kept.new.self) (slots_in c.hold_coming.new.self) c.hold_kept.ensures.holds (held_stays c.args.layout Held (g.N.SetName.handles_of c.hold_coming.new.names) (slots_in c.hold_kept.new.self) (slots_in c.hold_coming.new.self) c.bring.new.self c.hold_kept.new.self c.hold_kept.ensures.keeps.stays c.hold_coming.ensures.holds) c.hold_kept.ensures.fit c.hold_coming.ensures.fit

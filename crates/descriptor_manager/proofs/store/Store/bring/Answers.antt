@@ -7,7 +7,8 @@ use Rattle.gpu_descriptor.specs.Caller.Call.{layout_key}
 use Rattle.gpu_descriptor.specs.Model.Load.{set_descriptors}
 use Rattle.gpu_descriptor.specs.declared.errors.AllocationError.{AllocationError}
 use Rattle.gpu_descriptor.proofs.request.Passed.{passed}
-use Rattle.descriptor_table.specs.Tables.{count, is_kept}
+use Rattle.descriptor_table.specs.Slots.{count}
+use Rattle.descriptor_table.specs.Tables.{is_kept}
 use Rattle.descriptor_manager.specs.Stores.{AreCleaned, Asks, Cleans, ExceedsLimitAlone, IsCleared, IsRefused, KeepsContents, slots_in, kept_of}
 use Rattle.descriptor_manager.specs.declared.store.Store.{Store}
 use Rattle.descriptor_manager.proofs.Arriving.{none_left}

@@ -1,7 +1,7 @@
 use Rattle.std.proofs.Common.{◌≡◌, rules}
 use Rattle.descriptor_table.specs.Sets.{sets_in}
 use Rattle.descriptor_table.specs.Slots.{is_due}
-use Rattle.descriptor_table.specs.Tables.{generations_of, slots_of, vacated, IsBack, Turns}
+use Rattle.descriptor_table.specs.Tables.{removed_of, slots_of, vacated, IsBack, Turns}
 use Rattle.descriptor_table.proofs.Turning.{due_full}
 use Rattle.descriptor_manager.proofs.Given.{accounted_as, exact_as}
 use Rattle.descriptor_manager.proofs.Back.{came_back, settled_sets}
@@ -20,7 +20,7 @@ pub invariant_of-self-clause-accounted : goal.invariant_of-self-clause-accounted
 invariant_of-self-clause-accounted g c = accounted_as c.args.self.now (same_sets g (goal.at.invariant_of-self-clause-accounted g c).After-settle_due)
 
 -- those that were due were freed
-turns : (g : _) (c : After-give g) → Turns (is_due c.args.frame) (IsBack vacated (generations_of c.args.self.now.table) c.args.self.now.table.keep) (slots_of c.args.self.now.table) (slots_of c.give.new.self.table)
+turns : (g : _) (c : After-give g) → Turns (is_due c.args.frame) (IsBack vacated (removed_of c.args.self.now.table) c.args.self.now.table.keep) (slots_of c.args.self.now.table) (slots_of c.give.new.self.table)
 turns g c = search (rules, came_back, due_full, none_goes)
 
 pub returns-clause-back : goal.returns-clause-back

@@ -1,23 +1,16 @@
 use Rattle.std.proofs.lemmas.Grind.{common_steps}
-use Rattle.std.proofs.Common.{◌≡◌, false, refl, arith}
+use Rattle.std.proofs.Common.{◌≡◌, refl, arith}
 use Rattle.descriptor_table.specs.Giving.{is_of}
-use Rattle.descriptor_table.specs.Slots.{no_slot}
-use Rattle.descriptor_table.specs.Tables.{count, slots_of}
-use Rattle.descriptor_table.specs.declared.giving.Group.{Group}
-use Rattle.descriptor_table.specs.declared.giving.Group.TheVariants.{Going, KeptOf}
+use Rattle.descriptor_table.specs.Slots.{count}
+use Rattle.descriptor_table.specs.Tables.{slots_of}
 use Rattle.descriptor_table.proofs.Counts.{count_none}
 use Rattle.descriptor_manager.proofs.Given.{none_turns, returns_none}
 use Rattle.descriptor_manager.specs.Stores.{side_of}
 use Rattle.descriptor_manager.proofs.store.Store.give.Goals as goal
 
--- the slot past the end is in no group
-past_end : (T : Type 0) (group : Group) → is_of group (no_slot {T = T}) ≡ false
-past_end T Going = refl
-past_end T (KeptOf layout) = refl
-
 pub returns-then-is_empty-clause-frees : goal.returns-then-is_empty-clause-frees
 returns-then-is_empty-clause-frees g c =
     let slots = slots_of c.args.self.now.table in
     let zero : count (is_of c.args.group) slots ≡ 0 = grind (arith, common_steps) in
-    let none = count_none (is_of c.args.group) slots (past_end _ c.args.group) zero in
+    let none = count_none (is_of c.args.group) slots refl zero in
     grind (arith, common_steps, none_turns (is_of c.args.group) slots none, returns_none g.D.DescriptorDevice.meaning c.args.self.now.allocator (side_of c.args.self.now).ledger)

@@ -3,8 +3,8 @@ use Rattle.std.proofs.Common.{◌≡◌, ℕ, suc, ◌+◌, ◌&&◌, true, fals
 use Rattle.std.proofs.lemmas.Bool.{and_right}
 use Rattle.gpu_descriptor.specs.Caller.States.{outstanding_of}
 use Rattle.descriptor_table.specs.Sets.{joined, sets_in}
-use Rattle.descriptor_table.specs.Slots.{Slot, in_list, slot_at, waits, waits_for}
-use Rattle.descriptor_table.specs.Tables.{count, holds, is_held_use, is_kept}
+use Rattle.descriptor_table.specs.Slots.{Slot, count, in_list, slot_at, waits, waits_for}
+use Rattle.descriptor_table.specs.Tables.{holds, is_held_use, is_kept}
 use Rattle.descriptor_table.specs.declared.slot.Use.{Use}
 use Rattle.descriptor_table.proofs.Counts.{bit}
 use Rattle.descriptor_manager.specs.Stores.{is_placed, slots_in}

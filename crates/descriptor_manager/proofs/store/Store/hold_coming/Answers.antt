@@ -3,14 +3,17 @@ use Rattle.std.proofs.Common.{◌+◌, ◌∙◌, refl, sym, subst, take, arith}
 use Rattle.std.proofs.lemmas.List.{length-set, take_all}
 use Rattle.descriptor_table.specs.Sets.{AllFit}
 use Rattle.descriptor_table.proofs.Names.{handles_long, handles_written}
-use Rattle.descriptor_manager.specs.Stores.{HoldEach, ComesOf, current_in, slots_in}
+use Rattle.descriptor_manager.specs.Stores.{HoldEach, ComesOf, slots_in}
 use Rattle.descriptor_manager.proofs.Fitting.{fit_more}
 use Rattle.descriptor_manager.proofs.Growing.{grow_more}
-use Rattle.descriptor_manager.proofs.Joining.{held_next, held_start, held_stays, sets_then, stays_then, store_same}
+use Rattle.descriptor_manager.proofs.Joining.{held_next, held_start, held_stays, layout_stays, sets_then, stays_then, store_same}
 use Rattle.descriptor_manager.proofs.store.Store.hold_coming.Goals as goal
 
 pub loop-index-init : goal.loop-index-init
 loop-index-init g c = grind (arith, common_steps, held_start, store_same)
+
+pub hold_last-requires-clause-layout : goal.hold_last-requires-clause-layout
+hold_last-requires-clause-layout g c = layout_stays _ _ _ c.loop-index.invariant.stays c.requires.layout
 
 pub loop-index-preserved : goal.loop-index-preserved
 loop-index-preserved g c =
@@ -23,7 +26,7 @@ loop-index-preserved g c =
     let all = handles_long g.N.SetName g.met.N.SetName.each c.loop-index.names in
     record {
       long = length-set _ _ _ ∙ was.long;
-      holds = subst (λ l. HoldEach s.table.number (current_in c.args.layout s) c.args.used (take (i + 1) l) (slots_in s) (slots_in new))
+      holds = subst (λ l. HoldEach s.table.number c.args.layout c.args.used (take (i + 1) l) (slots_in s) (slots_in new))
           (sym written) (held_next _ _ c.requires.live _ _ _ s c.loop-index.self new was.stays (omega arith) was.holds now.holds);
       fit = fit_more g.N.SetName g.met.N.SetName.each _ _ _ c.requires.live c.loop-index.names i _ _ _ _ (omega arith) was.holds
           (held_stays _ _ _ _ _ s c.loop-index.self was.stays now.holds) was.fit now.fits;

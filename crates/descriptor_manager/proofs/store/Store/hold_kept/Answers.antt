@@ -5,7 +5,7 @@ use Rattle.descriptor_table.specs.Sets.{AllFit}
 use Rattle.descriptor_table.specs.Slots.{is_kept_of, slot_at}
 use Rattle.descriptor_table.specs.Tables.{place_at}
 use Rattle.descriptor_table.proofs.Names.{handles_long, handles_written}
-use Rattle.descriptor_manager.specs.Stores.{HoldEach, NoneComes, current_in, slots_in}
+use Rattle.descriptor_manager.specs.Stores.{HoldEach, NoneComes, slots_in}
 use Rattle.descriptor_manager.proofs.Fitting.{fit_more}
 use Rattle.descriptor_manager.proofs.Growing.{grow_more}
 use Rattle.descriptor_manager.proofs.Joining.{held_next, held_start, held_stays, kept_then, stays_then, store_same, were_kept}
@@ -28,11 +28,11 @@ loop-index-preserved g c =
     let long = was.long in
     record {
       long = length-set c.loop-index.names i c.hold_next.result ∙ was.long;
-      holds = subst (λ l. HoldEach s.table.number (current_in c.args.layout s) c.args.used (take (i + 1) l) (slots_in s) (slots_in c.hold_next.new.self)) (sym written)
+      holds = subst (λ l. HoldEach s.table.number c.args.layout c.args.used (take (i + 1) l) (slots_in s) (slots_in c.hold_next.new.self)) (sym written)
           (held_next c.args.layout c.args.used c.requires.live i handles handle s c.loop-index.self c.hold_next.new.self was.keeps.stays (omega arith) was.holds now.holds);
-      fit = fit_more g.N.SetName g.met.N.SetName.each s.table.number (current_in c.args.layout s) c.args.used c.requires.live c.loop-index.names i c.hold_next.result (slots_in s) (slots_in c.loop-index.self) (slots_in c.hold_next.new.self) (omega arith) was.holds (held_stays c.args.layout c.args.used (handle ∷ []) (slots_in c.loop-index.self) (slots_in c.hold_next.new.self) s c.loop-index.self was.keeps.stays now.holds) was.fit now.fits;
+      fit = fit_more g.N.SetName g.met.N.SetName.each s.table.number c.args.layout c.args.used c.requires.live c.loop-index.names i c.hold_next.result (slots_in s) (slots_in c.loop-index.self) (slots_in c.hold_next.new.self) (omega arith) was.holds (held_stays c.args.layout c.args.used (handle ∷ []) (slots_in c.loop-index.self) (slots_in c.hold_next.new.self) s c.loop-index.self was.keeps.stays now.holds) was.fit now.fits;
       were_kept = subst (λ l. (j : ℕ) → j < i + 1 → is_kept_of c.args.layout (slot_at (slots_in s) (place_at l j)) ≡ true) (sym written)
-          (were_kept s.table.number (current_in c.args.layout s) c.args.used c.args.layout i handles handle (slots_in s) (slots_in c.loop-index.self) c.requires.live (omega arith) was.holds was.were_kept now.was_kept);
+          (were_kept s.table.number c.args.used c.args.layout i handles handle (slots_in s) (slots_in c.loop-index.self) c.requires.live (omega arith) was.holds was.were_kept now.was_kept);
       fewer = (let a = was.fewer in let b = now.fewer in omega arith);
       as_many = now.as_many ∙ was.as_many;
       table = λ n room. now.table n (was.table n room);
@@ -40,7 +40,7 @@ loop-index-preserved g c =
       keeps = record {
         side = now.keeps.side ∙ was.keeps.side;
         sets = kept_then NoneComes (slots_in s) (slots_in c.loop-index.self) (slots_in c.hold_next.new.self) was.keeps.sets now.keeps.sets;
-        grows = grow_more c.loop-index.self.table.number (current_in c.args.layout c.loop-index.self) c.args.used (handle ∷ []) (slots_in s) (slots_in c.loop-index.self) (slots_in c.hold_next.new.self) c.requires.live was.keeps.grows now.keeps.grows now.holds;
+        grows = grow_more c.loop-index.self.table.number c.args.layout c.args.used (handle ∷ []) (slots_in s) (slots_in c.loop-index.self) (slots_in c.hold_next.new.self) c.requires.live was.keeps.grows now.keeps.grows now.holds;
         stays = stays_then s c.loop-index.self c.hold_next.new.self was.keeps.stays now.keeps.stays;
       };
     }

@@ -2,14 +2,14 @@ use Rattle.std.proofs.Common.{◌≡◌, ℕ, ◌+◌, ◌<◌, true, length, ta
 use Rattle.descriptor_table.specs.Sets.{AllFit}
 use Rattle.descriptor_table.specs.Slots.{is_kept_of, slot_at}
 use Rattle.descriptor_table.specs.Tables.{HasRoom, place_at}
-use Rattle.descriptor_manager.specs.Stores.{HoldEach, Holds, NoneComes, current_in, kept_of, slots_in}
+use Rattle.descriptor_manager.specs.Stores.{HoldEach, Holds, NoneComes, kept_of, slots_in}
 use Rattle.descriptor_manager.proofs.store.Store.hold_kept.Given as goal
 
 abbrev pub invariant-loop-index : goal.invariant-loop-index
 invariant-loop-index g l = record {
   long : length l.names ≡ length l.fn.names;
   fit : AllFit g.N.SetName.handle_of g.N.SetName.fit (slots_in l.self) (take l.index l.names);
-  holds : HoldEach l.fn.self.table.number (current_in l.layout l.fn.self) l.used (take l.index (g.N.SetName.handles_of l.names)) (slots_in l.fn.self) (slots_in l.self);
+  holds : HoldEach l.fn.self.table.number l.layout l.used (take l.index (g.N.SetName.handles_of l.names)) (slots_in l.fn.self) (slots_in l.self);
   were_kept : (i : ℕ) → i < l.index → is_kept_of l.layout (slot_at (slots_in l.fn.self) (place_at (g.N.SetName.handles_of l.names) i)) ≡ true;
   fewer : kept_of l.layout l.self + l.index ≡ kept_of l.layout l.fn.self;
   as_many : length (slots_in l.self) ≡ length (slots_in l.fn.self);

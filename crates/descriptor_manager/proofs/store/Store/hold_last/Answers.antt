@@ -25,15 +25,15 @@ pub invariant_of-self-clause-exact : goal.invariant_of-self-clause-exact
 invariant_of-self-clause-exact g c = λ t.
     let name = g.D.DescriptorDevice.meaning.set_name in
     let same = ap (λ l. count_of t (items_of name l)) (same_sets g c) in
-    let more = put_count name _ _ _ _ _ _ c.put.ensures.puts.1 t in
+    let more = put_count name _ _ _ _ _ c.put.ensures.puts.1 t in
     let coming = ap (λ l. count_of t (items_of name l)) c.in-Some.ensures.items in
     omega (arith, count_parts name c.pop.new.self.items (c.in-Some.set ∷ []) t, c.args.self.now.exact t)
 
 pub invariant_of-self-clause-accounted : goal.invariant_of-self-clause-accounted
-invariant_of-self-clause-accounted g c = omega (arith, ap length (same_sets g c), put_many _ _ _ _ _ _ c.put.ensures.puts.1, fewer g c, c.args.self.now.accounted)
+invariant_of-self-clause-accounted g c = omega (arith, ap length (same_sets g c), put_many _ _ _ _ _ c.put.ensures.puts.1, fewer g c, c.args.self.now.accounted)
 
 pub returns-clause-holds : goal.returns-clause-holds
-returns-clause-holds g c = new_one _ _ _ _ _ _ _ _ _ _ c.put.ensures.puts.1 c.put.ensures.puts.2
+returns-clause-holds g c = new_one _ _ _ _ _ _ _ _ _ c.put.ensures.puts.1 c.put.ensures.puts.2
 
 pub returns-clause-fits : goal.returns-clause-fits
 returns-clause-fits g c = ap (λ (o : Option _). g.N.SetName.fit c.put.result o) (added_here c.put.ensures.puts.1 c.put.ensures.puts.2) ∙ c.put.ensures.fits
@@ -54,7 +54,7 @@ returns-clause-keeps g c = λ known own.
     let is = subst (λ x. IsOfLayout g.D.DescriptorDevice.meaning known x.raw) last (own n x (omega arith)) in
     record {
       side = refl;
-      sets = new_comes _ _ _ _ comes _ _ _ _ _ _ c.put.ensures.puts.1 c.put.ensures.puts.2 (refl, is);
-      grows = grow_new _ _ _ _ _ _ _ _ _ _ (λ s. live_no_list (renewed c.args.used s) c.requires.live 0) c.put.ensures.puts.1 c.put.ensures.puts.2;
+      sets = new_comes _ _ _ _ comes _ _ _ _ _ c.put.ensures.puts.1 c.put.ensures.puts.2 (refl, is);
+      grows = grow_new _ _ _ _ _ _ _ _ _ (λ s. live_no_list (renewed c.args.used s) c.requires.live 0) c.put.ensures.puts.1 c.put.ensures.puts.2 c.put.ensures.grows;
       stays = search rules;
     }

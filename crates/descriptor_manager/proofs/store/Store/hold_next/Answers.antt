@@ -3,14 +3,13 @@ use Rattle.std.proofs.Common.{◌≡◌, ◌<◌, length, refl, ap, ◌∙◌, r
 use Rattle.std.proofs.lemmas.List.{length-set}
 use Rattle.descriptor_table.specs.Sets.{sets_in}
 use Rattle.descriptor_table.specs.Slots.{is_kept_of, slot_at}
-use Rattle.descriptor_table.specs.Tables.{came_under, renewed, slots_of}
+use Rattle.descriptor_table.specs.Tables.{renewed, slots_of}
 use Rattle.descriptor_table.specs.declared.handle.SetHandle.{SetHandle}
 use Rattle.descriptor_table.proofs.Listed.{test_within}
 use Rattle.descriptor_table.proofs.Renewing.{room_stays}
-use Rattle.descriptor_manager.specs.Stores.{current_in, slots_in}
+use Rattle.descriptor_manager.specs.Stores.{slots_in}
 use Rattle.descriptor_manager.proofs.Given.{accounted_as, exact_as, renewed_sets}
 use Rattle.descriptor_manager.proofs.Handing.{kept_fewer, kept_one, usable_stays}
-use Rattle.descriptor_manager.proofs.Naming.{kept_as}
 use Rattle.descriptor_manager.proofs.store.Store.hold_next.Given.{Over}
 use Rattle.descriptor_manager.proofs.store.Store.hold_next.Goals as goal
 use Rattle.descriptor_manager.proofs.store.Store.hold_next.Goals.{After-hold_kept}
@@ -20,10 +19,6 @@ handle g c = g.N.SetName.handle_of c.hold_kept.result
 
 within : (g : Over) (c : After-hold_kept g) → (handle g c).place < length (slots_in c.args.self.now)
 within g c = test_within (is_kept_of c.args.layout) (slots_in c.args.self.now) (handle g c).place refl c.hold_kept.ensures.kept
-
--- its layout has the number now
-under : (g : Over) (c : After-hold_kept g) → came_under (slot_at (slots_in c.args.self.now) (handle g c).place) ≡ current_in c.args.layout c.args.self.now
-under g c = grind (arith, common_steps, handle, kept_as, within)
 
 same_sets : (g : Over) (c : After-hold_kept g) → sets_in (slots_of c.hold_kept.new.self) ≡ sets_in (slots_in c.args.self.now)
 same_sets g c = renewed_sets c.args.self.now.table.number (handle g c).place c.args.used (handle g c) (slots_in c.args.self.now) (slots_of c.hold_kept.new.self) c.hold_kept.ensures.renews
@@ -38,7 +33,7 @@ pub invariant_of-self-clause-accounted : goal.invariant_of-self-clause-accounted
 invariant_of-self-clause-accounted g c = accounted_as c.args.self.now (same_sets g (goal.at.invariant_of-self-clause-accounted g c).After-hold_kept)
 
 pub returns-clause-holds : goal.returns-clause-holds
-returns-clause-holds g c = search (rules, kept_one, under, within)
+returns-clause-holds g c = search (rules, kept_one, within)
 
 pub returns-clause-fewer : goal.returns-clause-fewer
 returns-clause-fewer g c = search (rules, kept_fewer, within)

@@ -1,32 +1,37 @@
-use Rattle.std.proofs.Common.{◌≡◌, ◌<◌, ℕ, ◌∙◌, ap, sym, subst, arith, rules, List}
+use Rattle.std.proofs.Common.{◌≡◌, ◌∙◌, ap, sym, subst, arith, rules, List}
 use Rattle.gpu_descriptor.specs.Caller.Sets.{items_of}
 use Rattle.gpu_descriptor.specs.Model.Agreement.{count_of}
 use Rattle.gpu_descriptor.specs.declared.set.DescriptorSet.{DescriptorSet}
 use Rattle.descriptor_table.specs.Sets.{sets_in}
 use Rattle.descriptor_table.specs.Slots as table
 use Rattle.descriptor_table.specs.Slots.{is_kept_of}
-use Rattle.descriptor_table.specs.Tables.{Settings, Turns, Becomes, removed_at, slots_of, vacated}
+use Rattle.descriptor_table.specs.Tables.{Settings, Turns, Becomes, removed_with, slots_of, vacated}
 use Rattle.descriptor_manager.specs.Stores.{side_of, slots_in}
+use Rattle.descriptor_manager.proofs.Back.{kept_out}
 use Rattle.descriptor_manager.proofs.Following.{follow_turns, follows_vacated}
+use Rattle.descriptor_manager.proofs.Joining.{layout_stays}
 use Rattle.descriptor_manager.proofs.Settling.{settled}
 use Rattle.descriptor_manager.proofs.store.Store.remove_layout.Goals.{After-remove_layout}
 use Rattle.descriptor_manager.proofs.store.Store.remove_layout.Goals as goal
 
 same_sets : (g : _) (c : After-remove_layout g) → sets_in (slots_of c.remove_layout.new.self) ≡ sets_in (slots_in c.give.new.self)
-same_sets g c = ap (λ v. sets_in (table.slots_in v)) c.remove_layout.ensures.only.slots
+same_sets g c = ap (λ v. sets_in (table.slots_in v)) c.remove_layout.ensures.slots
 
 turns : (g : _) (c : After-remove_layout g) → Turns (is_kept_of c.args.layout) (Becomes vacated) (slots_in c.args.self.now) (slots_of c.remove_layout.new.self)
-turns g c = subst (λ v. Turns (is_kept_of c.args.layout) (Becomes vacated) (slots_in c.args.self.now) (table.slots_in v)) (sym c.remove_layout.ensures.only.slots) c.give.ensures.frees.turns
+turns g c = subst (λ v. Turns (is_kept_of c.args.layout) (Becomes vacated) (slots_in c.args.self.now) (table.slots_in v)) (sym c.remove_layout.ensures.slots) c.give.ensures.frees.turns
 
-pub remove_layout-requires-clause-next : goal.remove_layout-requires-clause-next
-remove_layout-requires-clause-next g c = subst (λ (generations : ℕ → ℕ). generations c.args.layout < 4294967295) (sym (ap (λ (s : Settings). s.generations) c.give.ensures.stays.settings)) c.requires.next
+pub remove_layout-requires-clause-layout : goal.remove_layout-requires-clause-layout
+remove_layout-requires-clause-layout g c = layout_stays _ _ _ c.give.ensures.stays c.requires.layout
+
+-- no set of the layout is kept any more
+pub remove_layout-requires-clause-none_kept : goal.remove_layout-requires-clause-none_kept
+remove_layout-requires-clause-none_kept g c = λ p. kept_out c.args.layout _ _ c.give.ensures.frees.turns p
 
 pub returns-clause-removes : goal.returns-clause-removes
 returns-clause-removes g c =
     record {
       turns = turns g (goal.at.returns-clause-removes g c).After-remove_layout;
-      generations = (ap (λ (s : Settings). s.generations) c.remove_layout.ensures.only.settings) ∙ ap (removed_at c.args.layout) (ap (λ (s : Settings). s.generations) c.give.ensures.stays.settings);
-      past = c.remove_layout.ensures.past;
+      removed = ap (λ (s : Settings). s.removed) c.remove_layout.ensures.settings ∙ ap (λ (s : Settings). removed_with c.args.layout s.removed) c.give.ensures.stays.settings;
       mid = side_of c.give.new.self;
       back = c.give.ensures.frees.back;
       trims = c.trim_layout.ensures.trims;

@@ -1,23 +1,14 @@
 use Rattle.std.proofs.lemmas.Grind.{common_steps}
-use Rattle.std.proofs.Common.{◌≡◌, ◌∙◌, ◌+◌, ◌-◌, ap, subst, arith, rules}
+use Rattle.std.proofs.Common.{◌≡◌, ◌∙◌, ◌+◌, subst, arith, rules}
 use Rattle.descriptor_table.specs.Sets.{sets_in}
-use Rattle.descriptor_table.specs.Slots.{goes, is_in, chains_in, nexts_in, slots_in}
-use Rattle.descriptor_table.specs.Tables.{Turns, Becomes, count, is_kept, slots_of, vacated, MayBecome}
-use Rattle.descriptor_table.proofs.Counts.{chain_count}
+use Rattle.descriptor_table.specs.Slots.{goes, slots_in}
+use Rattle.descriptor_table.specs.Tables.{Turns, Becomes, is_kept, slots_of, vacated, MayBecome}
 use Rattle.descriptor_manager.proofs.Given.{accounted_as, exact_as}
 use Rattle.descriptor_manager.proofs.Back.{given_kept, gone_sets, left}
 use Rattle.descriptor_manager.proofs.Following.{follow_turns, follows_left, none_goes}
 use Rattle.descriptor_manager.proofs.Settling.{settled}
 use Rattle.descriptor_manager.proofs.store.Store.set_max_kept.Goals.{After-give, After-set_max_kept}
 use Rattle.descriptor_manager.proofs.store.Store.set_max_kept.Goals as goal
-
-pub set_max_kept-requires : goal.set_max_kept-requires
-set_max_kept-requires g c = λ k two.
-    let s = c.trim.new.self in
-    let back : k - 2 + 2 ≡ k = omega arith in
-    let same = ap (λ j. count (is_in j) (slots_of s)) back in
-    let all = chain_count (slots_of s) (nexts_in s.slots) (chains_in s.lists.items) s.sound.linked k in
-    omega arith
 
 -- the sets are as they were
 same_sets : (g : _) (c : After-set_max_kept g) → sets_in (slots_of c.set_max_kept.new.self) ≡ sets_in (slots_of c.args.self.now.table)

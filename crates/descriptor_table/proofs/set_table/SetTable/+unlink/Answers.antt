@@ -1,8 +1,9 @@
 use Rattle.std.proofs.lemmas.Grind.{common_steps}
 use Rattle.std.proofs.Common.{◌≡◌, ◌≢◌, ◌∙◌, ◌+◌, ◌<◌, ℕ, true, length, List, refl, sym, ap, arith, rules}
 use Rattle.std.proofs.lemmas.List.{length-set}
-use Rattle.descriptor_table.specs.Slots.{Slot, chains_in, is_in, nexts_in, slot_at, slots_in}
-use Rattle.descriptor_table.specs.Tables.{Settings, Picks, count, is_kept, slots_of, used_for}
+use Rattle.descriptor_table.specs.Slots.{Slot, count, is_in, nexts_in, slot_at, slots_in}
+use Rattle.descriptor_table.specs.Giving.{is_of, list_of}
+use Rattle.descriptor_table.specs.Tables.{chains_of, Settings, Picks, slots_of, used_for}
 use Rattle.descriptor_table.specs.declared.slot.Use.{Use}
 use Rattle.descriptor_table.specs.declared.slot.Use.TheVariants.{Taken}
 use Rattle.descriptor_table.proofs.Chains.{taken_no_list}
@@ -11,6 +12,7 @@ use Rattle.descriptor_table.proofs.Counts.{bit, chain_count, count_set}
 use Rattle.descriptor_table.proofs.Holding.{all_same, used_same}
 use Rattle.descriptor_table.proofs.Listed.{other_slots, slot_set, test_within, with_use}
 use Rattle.descriptor_table.proofs.Turning.{stays_more}
+use Rattle.descriptor_table.proofs.Writing.{list_some, listed_there}
 use Rattle.descriptor_table.proofs.set_table.SetTable.+unlink.Goals as goal
 
 -- two slots of one list of sets are in the same use
@@ -49,35 +51,35 @@ unlink-requires g t c κs within =
     let old = slots_of c.args.self.now in
     let mid = slots_of c.pick.new.self in
     let picks = c.in-Some.ensures.slots in
-    let same = as_was c.args.list c.in-Some.first c.args.place c.args.used old mid c.requires.list picks c.if-first-place.false c.requires.listed c.requires.used in
-    (omega (arith, fewer c.args.list c.in-Some.first c.args.place c.args.used old mid c.requires.list picks c.if-first-place.false c.requires.listed c.requires.used), (within, (c.requires.list, (ap (is_in c.args.list) same ∙ c.requires.listed, ap (λ s. s.used) same ∙ c.requires.used))))
+    let same = as_was (list_of c.args.group) c.in-Some.first c.args.place c.args.used old mid (list_some c.args.group) picks c.if-first-place.false c.requires.listed c.requires.used in
+    (omega (arith, fewer (list_of c.args.group) c.in-Some.first c.args.place c.args.used old mid (list_some c.args.group) picks c.if-first-place.false c.requires.listed c.requires.used), (within, (ap (is_of c.args.group) same ∙ c.requires.listed, ap (λ s. s.used) same ∙ c.requires.used)))
 
 pub link-requires-clause-goes : goal.link-requires-clause-goes
-link-requires-clause-goes g t c = grind (arith, common_steps, first_again)
+link-requires-clause-goes g t c =
+    let picks = c.in-Some.ensures.slots in
+    ap (is_of c.args.group) (first_again (list_of c.args.group) c.in-Some.first c.args.place c.args.used (slots_of c.args.self.now) (slots_of c.pick.new.self) (list_some c.args.group) picks c.if-first-place.false c.requires.listed c.requires.used (slots_of c.unlink.new.self) c.unlink.ensures.slots) ∙ picks.was
 
-pub link-requires-clause-current : goal.link-requires-clause-current
-link-requires-clause-current g t c = λ kept.
+pub link-requires-clause-there : goal.link-requires-clause-there
+link-requires-clause-there g t c = λ two.
     let s = c.args.self.now in
     let first = c.in-Some.first in
     let picks = c.in-Some.ensures in
-    let again = first_again c.args.list first c.args.place c.args.used (slots_of s) (slots_of c.pick.new.self) c.requires.list picks.slots c.if-first-place.false c.requires.listed c.requires.used (slots_of c.unlink.new.self) c.unlink.ensures.slots in
-    let o = slot_at (slots_of s) first in
-    let same = (ap (λ (s : Settings). s.generations) c.unlink.ensures.stays.settings) ∙ (ap (λ (s : Settings). s.generations) picks.stays.settings) in
-    let was = (s.sound.known first picks.slots.within).kept (ap is_kept (sym again) ∙ kept) in
-    ap (λ s. s.layout_generation) again ∙ was ∙ (λ i. (sym same i) (sym again i).layout)
+    let again = first_again (list_of c.args.group) first c.args.place c.args.used (slots_of s) (slots_of c.pick.new.self) (list_some c.args.group) picks.slots c.if-first-place.false c.requires.listed c.requires.used (slots_of c.unlink.new.self) c.unlink.ensures.slots in
+    let same = (ap (λ (s : Settings). s.removed) c.unlink.ensures.stays.settings) ∙ (ap (λ (s : Settings). s.removed) picks.stays.settings) in
+    (λ i. (same i) (again i).layout) ∙ listed_there s c.args.group first two picks.slots.was
 
 pub link-requires-clause-few : goal.link-requires-clause-few
 link-requires-clause-few g t c = λ two.
     let s = c.args.self.now in
-    let k = c.args.list in
+    let k = (list_of c.args.group) in
     let first = c.in-Some.first in
     let picks = c.in-Some.ensures in
     let new = c.unlink.new.self in
-    let one = fewer k first c.args.place c.args.used (slots_of s) (slots_of c.pick.new.self) c.requires.list picks.slots c.if-first-place.false c.requires.listed c.requires.used in
-    let other = fewer_still k first c.args.place c.args.used (slots_of s) (slots_of c.pick.new.self) c.requires.list picks.slots c.if-first-place.false c.requires.listed c.requires.used (slots_of new) c.unlink.ensures.slots in
+    let one = fewer k first c.args.place c.args.used (slots_of s) (slots_of c.pick.new.self) (list_some c.args.group) picks.slots c.if-first-place.false c.requires.listed c.requires.used in
+    let other = fewer_still k first c.args.place c.args.used (slots_of s) (slots_of c.pick.new.self) (list_some c.args.group) picks.slots c.if-first-place.false c.requires.listed c.requires.used (slots_of new) c.unlink.ensures.slots in
     let few = s.sound.few k two in
-    let was = chain_count (slots_in s.slots) (nexts_in s.slots) (chains_in s.lists.items) s.sound.linked k in
-    let is = chain_count (slots_in new.slots) (nexts_in new.slots) (chains_in new.lists.items) new.sound.linked k in
+    let was = chain_count (slots_in s.slots) (nexts_in s.slots) (chains_of s) s.sound.linked k in
+    let is = chain_count (slots_in new.slots) (nexts_in new.slots) (chains_of new) new.sound.linked k in
     let keep = (ap (λ (s : Settings). s.keep) c.unlink.ensures.stays.settings) ∙ (ap (λ (s : Settings). s.keep) picks.stays.settings) in
     omega arith
 
@@ -87,6 +89,6 @@ returns g t c =
     let first = c.in-Some.first in
     let picks = c.in-Some.ensures in
     record {
-      slots = all_back c.args.list first c.args.place c.args.used (slots_of s) (slots_of c.pick.new.self) c.requires.list picks.slots c.if-first-place.false c.requires.listed c.requires.used (slots_of c.unlink.new.self) c.unlink.ensures.slots (slots_of c.link.new.self) c.link.ensures.slots;
+      slots = all_back (list_of c.args.group) first c.args.place c.args.used (slots_of s) (slots_of c.pick.new.self) (list_some c.args.group) picks.slots c.if-first-place.false c.requires.listed c.requires.used (slots_of c.unlink.new.self) c.unlink.ensures.slots (slots_of c.link.new.self) c.link.ensures.slots;
       stays = stays_more s c.unlink.new.self c.link.new.self (stays_more s c.pick.new.self c.unlink.new.self picks.stays c.unlink.ensures.stays) c.link.ensures.stays;
     }

@@ -1,7 +1,8 @@
-use Rattle.descriptor_table.specs.Slots.{is_in}
-use Rattle.descriptor_table.specs.Tables.{count, slots_of}
+use Rattle.descriptor_table.specs.Giving.{is_of}
+use Rattle.descriptor_table.specs.Slots.{count}
+use Rattle.descriptor_table.specs.Tables.{slots_of}
 use Rattle.descriptor_table.proofs.set_table.SetTable.+unlink.Given as goal
 
--- how many slots are in the list
+-- how many sets are in the group
 abbrev pub decreases-unlink : goal.decreases-unlink
-decreases-unlink g l = count (is_in l.list) (slots_of l.self.now)
+decreases-unlink g l = count (is_of l.group) (slots_of l.self.now)

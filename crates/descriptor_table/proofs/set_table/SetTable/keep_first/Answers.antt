@@ -1,6 +1,6 @@
 use Rattle.std.proofs.Common.{◌≡◌, ◌<◌, ℕ, false, is_some, take, refl, sym, ap, subst, ◌∙◌}
 use Rattle.descriptor_table.specs.Slots.{in_list, is_in, slot_at}
-use Rattle.descriptor_table.specs.Tables.{Becomes, CanBeHeld, Settings, TurnEach, generations_of, next_use, place_at, slots_of, used_for}
+use Rattle.descriptor_table.specs.Tables.{Becomes, CanBeHeld, Settings, TurnEach, removed_of, next_use, place_at, slots_of, used_for}
 use Rattle.descriptor_table.specs.declared.slot.Use.TheVariants.{Held}
 use Rattle.descriptor_table.proofs.Chains.{and_true}
 use Rattle.descriptor_table.proofs.Holding.{can_turn, held_is, turned_back, turned_each}
@@ -26,22 +26,22 @@ loop-kept-preserved g c =
     let out : (k : ℕ) → is_in k (slot_at now p) ≡ false = (λ k. ap (λ u. in_list k u (slot_at now p).layout (slot_at now p).generation (is_some (slot_at now p).set)) held.used) in
     let same : now ≡ with_use p Held now = sym (same_use now p Held held.used held.within) in
     let made = kept.keeps refl ∙ ap (λ u. with_use p u now) (same_next s c.loop-kept.self inv.stays.settings now p) in
-    let u = next_use (generations_of s) s.keep now p in
+    let u = next_use (removed_of s) s.keep now p in
     record {
       turned =
           names_more _ _ _ _ _ _ _ _ inv.turned x c.loop-kept-test.true c.index-names-kept.is (g.N.SetName.handle_of x) refl
-          (settled_not_held (generations_of s) s.keep) has (used_for u (slot_at now p)) new
-          (settled_set (generations_of s) s.keep now now new p held.within out Held tt same made)
-          (settled_grows (generations_of s) s.keep now now new p held.within out Held tt same made)
-          (settled_here (generations_of s) s.keep now now new p held.within out Held tt same made);
+          (settled_not_held (removed_of s) s.keep) has (used_for u (slot_at now p)) new
+          (settled_set (removed_of s) s.keep now now new p held.within out Held tt same made)
+          (settled_grows (removed_of s) s.keep now now new p held.within out Held tt same made)
+          (settled_here (removed_of s) s.keep now now new p held.within out Held tt same made);
       stays = stays_more s c.loop-kept.self c.keep_named.new.self inv.stays kept.stays;
     }
 
 pub returns-else-keep_named-clause-can : goal.returns-else-keep_named-clause-can
-returns-else-keep_named-clause-can g c = subst (λ l. (i : ℕ) → i < c.loop-kept.kept → CanBeHeld (slot_at l (place_at (g.N.SetName.handles_of c.args.names.now) i))) (sym (c.if-keep_named.ensures.none refl)) (can_turn _ _ _ _ _ _ (back_only (generations_of c.args.self.now) c.args.self.now.keep (slots_of c.loop-kept.self)) c.loop-kept.invariant.turned.some)
+returns-else-keep_named-clause-can g c = subst (λ l. (i : ℕ) → i < c.loop-kept.kept → CanBeHeld (slot_at l (place_at (g.N.SetName.handles_of c.args.names.now) i))) (sym (c.if-keep_named.ensures.none refl)) (can_turn _ _ _ _ _ _ (back_only (removed_of c.args.self.now) c.args.self.now.keep (slots_of c.loop-kept.self)) c.loop-kept.invariant.turned.some)
 
 pub returns-else-keep_named-clause-undone : goal.returns-else-keep_named-clause-undone
-returns-else-keep_named-clause-undone g c = λ back again. turned_back _ _ _ _ _ _ (back_only (generations_of c.args.self.now) c.args.self.now.keep (slots_of c.loop-kept.self)) c.loop-kept.invariant.turned.some back (subst (λ l. TurnEach (take c.loop-kept.kept (g.N.SetName.handles_of c.args.names.now)) (Becomes (used_for Held)) l back) (c.if-keep_named.ensures.none refl) again)
+returns-else-keep_named-clause-undone g c = λ back again. turned_back _ _ _ _ _ _ (back_only (removed_of c.args.self.now) c.args.self.now.keep (slots_of c.loop-kept.self)) c.loop-kept.invariant.turned.some back (subst (λ l. TurnEach (take c.loop-kept.kept (g.N.SetName.handles_of c.args.names.now)) (Becomes (used_for Held)) l back) (c.if-keep_named.ensures.none refl) again)
 
 pub returns-after-loop-kept-clause-once : goal.returns-after-loop-kept-clause-once
 returns-after-loop-kept-clause-once g c = λ all. names_all _ _ _ _ _ _ _ _ c.loop-kept.invariant.turned c.loop-kept-test.false
@@ -50,7 +50,7 @@ pub returns-after-loop-kept-clause-back : goal.returns-after-loop-kept-clause-ba
 returns-after-loop-kept-clause-back g c = λ all. turned_each _ _ _ _ _ _ (names_end _ _ _ _ _ _ _ _ c.loop-kept.invariant.turned c.loop-kept-test.false) c.loop-kept.invariant.turned.some
 
 pub returns-after-loop-kept-clause-can : goal.returns-after-loop-kept-clause-can
-returns-after-loop-kept-clause-can g c = can_turn _ _ _ _ _ _ (back_only (generations_of c.args.self.now) c.args.self.now.keep (slots_of c.loop-kept.self)) c.loop-kept.invariant.turned.some
+returns-after-loop-kept-clause-can g c = can_turn _ _ _ _ _ _ (back_only (removed_of c.args.self.now) c.args.self.now.keep (slots_of c.loop-kept.self)) c.loop-kept.invariant.turned.some
 
 pub returns-after-loop-kept-clause-undone : goal.returns-after-loop-kept-clause-undone
-returns-after-loop-kept-clause-undone g c = turned_back _ _ _ _ _ _ (back_only (generations_of c.args.self.now) c.args.self.now.keep (slots_of c.loop-kept.self)) c.loop-kept.invariant.turned.some
+returns-after-loop-kept-clause-undone g c = turned_back _ _ _ _ _ _ (back_only (removed_of c.args.self.now) c.args.self.now.keep (slots_of c.loop-kept.self)) c.loop-kept.invariant.turned.some

@@ -1,8 +1,9 @@
 use Rattle.std.proofs.Common.{◌≡◌}
-use Rattle.descriptor_table.specs.Tables.{count, slots_of}
-use Rattle.descriptor_table.proofs.Totals.{kept_below}
+use Rattle.descriptor_table.specs.Slots.{count}
+use Rattle.descriptor_table.specs.Tables.{slots_of}
+use Rattle.descriptor_table.proofs.Totals.{kept_before}
 use Rattle.descriptor_table.proofs.set_table.SetTable.kept_total.Given as goal
 
--- the kept sets of the lists before this one
-abbrev pub invariant-loop-list : goal.invariant-loop-list
-invariant-loop-list g l = l.total ≡ count (kept_below l.list) (slots_of l.self)
+-- the kept sets of the layouts before this one
+abbrev pub invariant-loop-layout : goal.invariant-loop-layout
+invariant-loop-layout g l = l.total ≡ count (kept_before l.layout) (slots_of l.self)

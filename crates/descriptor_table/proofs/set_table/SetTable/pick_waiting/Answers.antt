@@ -1,9 +1,10 @@
 use Rattle.std.proofs.lemmas.Grind.{common_steps}
-use Rattle.std.proofs.Common.{arith, rules}
-use Rattle.descriptor_table.specs.Slots.{chains_in, generations_in, slot_at, slots_in}
-use Rattle.descriptor_table.specs.Tables.{used_for}
+use Rattle.std.proofs.Common.{refl, arith, rules}
+use Rattle.descriptor_table.specs.Slots.{slot_at, slots_in}
+use Rattle.descriptor_table.specs.Tables.{chains_of, layouts_of, used_for}
 use Rattle.descriptor_table.specs.declared.slot.Use.TheVariants.{Taken}
-use Rattle.descriptor_table.proofs.Chains.{taken_unkept, unheld}
+use Rattle.descriptor_table.proofs.Chains.{unheld}
+use Rattle.descriptor_table.proofs.Numbers.{slot_counted}
 use Rattle.descriptor_table.proofs.Sound.{leave_sound, listed}
 use Rattle.descriptor_table.proofs.Waiting.{first_waits}
 use Rattle.descriptor_table.proofs.set_table.SetTable.pick_waiting.Goals as goal
@@ -13,9 +14,15 @@ set_use-requires g c =
     let s = c.args.self.now in
     search (rules, first_waits (slots_in s.slots) c.in_ok-first.first c.pop_front.new.self.items s.newest)
 
-pub invariant_of-self-2 : goal.invariant_of-self-2
-invariant_of-self-2 g c =
+pub invariant_of-self-2-clause-sound : goal.invariant_of-self-2-clause-sound
+invariant_of-self-2-clause-sound g c =
     let s = c.args.self.now in
     let p = c.in_ok-first.first in
     let rest = c.pop_front.new.self.items in
-    grind (arith, common_steps, listed, leave_sound s.slots c.set_use.new.self (chains_in s.lists.items) (generations_in s.lists.items) s.waiting.items s.waiting.cap s.keep s.newest s.sound p (used_for Taken (slot_at (slots_in s.slots) p)) c.set_use.ensures.writes.slots rest, first_waits (slots_in s.slots) p rest s.newest, taken_unkept, unheld)
+    grind (arith, common_steps, listed, leave_sound s.slots c.set_use.new.self (chains_of s) (layouts_of s) s.waiting.items s.waiting.cap s.keep s.newest s.sound p (used_for Taken (slot_at (slots_in s.slots) p)) c.set_use.ensures.writes.slots rest, first_waits (slots_in s.slots) p rest s.newest, unheld)
+
+pub invariant_of-self-2-clause-counted : goal.invariant_of-self-2-clause-counted
+invariant_of-self-2-clause-counted g c =
+    let s = c.args.self.now in
+    let p = c.in_ok-first.first in
+    slot_counted s (slots_in c.set_use.new.self) p _ c.set_use.ensures.writes.slots (search (rules, first_waits (slots_in s.slots) p c.pop_front.new.self.items s.newest)) refl refl

@@ -1,5 +1,4 @@
-use Rattle.std.proofs.lemmas.Grind.{common_steps}
-use Rattle.std.proofs.Common.{◌≡◌, ◌+◌, ◌-◌, ◌<◌, length, subst, arith}
+use Rattle.std.proofs.Common.{◌≡◌, ◌+◌, ◌-◌, ◌<◌, length, ap, subst, ◌∙◌, arith}
 use Rattle.descriptor_table.specs.Slots.{slot_at}
 use Rattle.descriptor_table.specs.Tables.{CanBeHeld, place_at, slots_of}
 use Rattle.descriptor_table.proofs.Holding.{again_all, again_can, again_more}
@@ -10,7 +9,11 @@ use Rattle.descriptor_table.proofs.set_table.SetTable.put_back.Goals as goal
 
 -- the place of the last of the names that are left
 at : (g : _) (c : After-handle g) → place_at (g.N.SetName.handles_of c.args.names.now) (c.args.count - (c.loop-index.index + 1)) ≡ c.handle.result.place
-at g c = grind (arith, common_steps, place_read g.N.SetName g.met.N.SetName.each c.args.names.now (c.args.count - 1 - c.loop-index.index) c.index-names-count.result c.handle.result (omega arith) c.index-names-count.is c.handle.ensures)
+at g c =
+    let lt = c.loop-index-test.true in
+    let few = c.requires.few in
+    let last : c.args.count - (c.loop-index.index + 1) ≡ c.args.count - 1 - c.loop-index.index = omega arith in
+    ap (place_at (g.N.SetName.handles_of c.args.names.now)) last ∙ place_read g.N.SetName g.met.N.SetName.each c.args.names.now (c.args.count - 1 - c.loop-index.index) c.index-names-count.result c.handle.result (omega arith) c.index-names-count.is c.handle.ensures
 
 -- its set can be held
 can : (g : _) (c : After-handle g) → (c.handle.result.place < length (slots_of c.loop-index.self)) × CanBeHeld (slot_at (slots_of c.loop-index.self) c.handle.result.place)

@@ -1,36 +1,26 @@
-use Rattle.std.proofs.lemmas.Grind.{common_steps}
-use Rattle.std.proofs.Common.{◌≡◌, ◌+◌, ◌<◌, length, set, ap, arith, rules}
-use Rattle.std.proofs.Math.Seq.{map-set_same}
-use Rattle.std.proofs.lemmas.List.{get_or-map, length-map, map-set}
-use Rattle.descriptor_table.specs.Slots.{chains_in, generation_at, generations_in}
-use Rattle.descriptor_table.specs.declared.slot.ListHead.{ListHead}
-use Rattle.descriptor_table.proofs.Counting.{below_or}
-use Rattle.descriptor_table.proofs.Listed.{past_end}
-use Rattle.descriptor_table.proofs.Sound.{remove_sound, removed_here, removed_is}
-use Rattle.descriptor_table.proofs.set_table.SetTable.remove_layout.Goals.{After-index_mut}
+use Rattle.std.proofs.Common.{◌+◌, ◌∙◌, set, refl, sym, subst, arith}
+use Rattle.std.proofs.lemmas.List.{length-map, length-set}
+use Rattle.descriptor_table.specs.Slots.{AreCounted, AreSound, is_kept_of, nexts_in, shown}
+use Rattle.descriptor_table.specs.Tables.{chains_of, layouts_of, slots_of}
+use Rattle.descriptor_table.proofs.Counts.{chain_count, none_count}
+use Rattle.descriptor_table.proofs.Entries.{chain_written, in_place, settings_written}
+use Rattle.descriptor_table.proofs.Numbers.{removed_counted, there_user}
+use Rattle.descriptor_table.proofs.Sound.{emptied_sound}
 use Rattle.descriptor_table.proofs.set_table.SetTable.remove_layout.Goals as goal
 
-abbrev new_head : (g : _) (c : After-index_mut g) → ListHead
-new_head g c = record { chain = c.index_mut.result.now.chain; generation = c.index_mut.result.now.generation + 1 }
+pub leave-requires-clause-some : goal.leave-requires-clause-some
+leave-requires-clause-some g c = there_user c.args.self.now c.args.layout c.requires.layout
 
-within : (g : _) (c : After-index_mut g) → c.args.layout + 2 < length (generations_in c.args.self.now.lists.items)
-within g c = let a = length-map c.args.self.now.lists.items (λ (h : ListHead). h.chain) in let b = length-map c.args.self.now.lists.items (λ (h : ListHead). h.generation) in let there = c.requires.layout in omega arith
+pub invariant_of-self-clause-sound : goal.invariant_of-self-clause-sound
+invariant_of-self-clause-sound g c =
+    let s = c.args.self.now in
+    let n = c.args.layout in
+    let none = chain_count (slots_of s) (nexts_in s.slots) (chains_of s) s.sound.linked (n + 2) ∙ none_count (is_kept_of n) (slots_of s) c.requires.none_kept in
+    in_place (λ chains layouts. AreSound s.slots chains layouts s.waiting.items s.waiting.cap s.keep s.newest) _ _ _ _ (chain_written s.vacant s.going s.kept.items n _) (length-set s.kept.items n _)
+    (emptied_sound s.slots s.slots (chains_of s) (layouts_of s) s.waiting.items s.waiting.cap s.keep s.newest s.sound (n + 2) _ none refl (omega (arith, length-map s.kept.items shown, c.requires.layout.within)))
 
-chains : (g : _) (c : After-index_mut g) → chains_in (set c.args.self.now.lists.items (c.args.layout + 2) (new_head g c)) ≡ chains_in c.args.self.now.lists.items
-chains g c = map-set_same (λ (h : ListHead). h.chain) c.args.self.now.lists.items (c.args.layout + 2) (new_head g c) c.index_mut.result.now (ap (λ (h : ListHead). h.chain) c.index_mut.ensures.value)
+pub invariant_of-self-clause-counted : goal.invariant_of-self-clause-counted
+invariant_of-self-clause-counted g c = let s = c.args.self.now in subst (AreCounted (slots_of s) (set s.kept.items c.args.layout (record { first = 0; count = 4294967295 }))) (sym c.leave.ensures) (removed_counted s c.args.layout _ c.requires.layout refl)
 
-generations : (g : _) (c : After-index_mut g) → generations_in (set c.args.self.now.lists.items (c.args.layout + 2) (new_head g c)) ≡ set (generations_in c.args.self.now.lists.items) (c.args.layout + 2) (generation_at (generations_in c.args.self.now.lists.items) c.args.layout + 1)
-generations g c = grind (arith, common_steps, get_or-map, length-map, map-set, new_head, within)
-
-pub invariant_of-self : goal.invariant_of-self
-invariant_of-self g c = search (rules, chains, generations, remove_sound, within)
-
-pub returns-clause-only : goal.returns-clause-only
-returns-clause-only g c =
-    let a = (goal.at.returns-clause-only g c).After-index_mut in
-    search (rules, chains g a, generations g a, removed_is, within g a)
-
-pub returns-clause-past : goal.returns-clause-past
-returns-clause-past g c =
-    let a = (goal.at.returns-clause-past g c).After-index_mut in
-    grind (arith, common_steps, below_or, generations g a, past_end, removed_here, within g a)
+pub returns : goal.returns
+returns g c = let s = c.args.self.now in record { slots = refl; settings = settings_written s.number s.keep s.kept.items c.args.layout _ c.requires.layout.within }

@@ -1,17 +1,24 @@
 use Rattle.std.proofs.lemmas.Grind.{common_steps}
-use Rattle.std.proofs.Common.{arith}
-use Rattle.std.proofs.lemmas.List.{set-set}
-use Rattle.descriptor_table.specs.Slots.{chains_in, generations_in, slot_at, slots_in}
-use Rattle.descriptor_table.specs.Tables.{vacated}
+use Rattle.std.proofs.Common.{◌<◌, refl, subst, sym, ap, arith}
+use Rattle.descriptor_table.specs.Slots.{AreCounted, Slot, slot_at, slots_in}
+use Rattle.descriptor_table.specs.Tables.{chains_of, layouts_of, slots_of, vacated}
+use Rattle.descriptor_table.specs.Users.{users_in}
 use Rattle.descriptor_table.proofs.Chains.{taken_no_list, taken_out}
-use Rattle.descriptor_table.proofs.Listed.{slot_set}
+use Rattle.descriptor_table.proofs.Numbers.{left_counted, set_user}
 use Rattle.descriptor_table.proofs.Sound.{out_sound}
 use Rattle.descriptor_table.proofs.set_table.SetTable.retire.Goals as goal
 
-pub invariant_of-self : goal.invariant_of-self
-invariant_of-self g c =
-    let s = c.args.self.now in
-    grind (arith, common_steps, set-set, slot_set, out_sound s.slots c.take_set.new.self (chains_in s.lists.items) (generations_in s.lists.items) s.waiting.items s.waiting.cap s.keep s.newest s.sound c.args.place (vacated (slot_at (slots_in s.slots) c.args.place)), taken_no_list, taken_out)
+pub leave-requires-clause-some : goal.leave-requires-clause-some
+leave-requires-clause-some g c = let s = c.args.self.now in grind (arith, common_steps, set_user (slots_of s) s.kept.items (users_in s.users) s.counted c.args.place)
 
-pub returns-clause-changes : goal.returns-clause-changes
-returns-clause-changes g c = grind (arith, common_steps, set-set, slot_set)
+pub invariant_of-self-clause-sound : goal.invariant_of-self-clause-sound
+invariant_of-self-clause-sound g c =
+    let s = c.args.self.now in
+    grind (arith, common_steps, out_sound s.slots c.vacate.new.self (chains_of s) (layouts_of s) s.waiting.items s.waiting.cap s.keep s.newest s.sound c.args.place (vacated (slot_at (slots_in s.slots) c.args.place)), taken_no_list, taken_out)
+
+pub invariant_of-self-clause-counted : goal.invariant_of-self-clause-counted
+invariant_of-self-clause-counted g c =
+    let s = c.args.self.now in
+    let layout = ap (λ (s : Slot g.row.T.Denot). s.layout) (sym c.at-slot.ensures.slot) in
+    subst (AreCounted (slots_in c.vacate.new.self) s.kept.items) (sym c.leave.ensures)
+    (left_counted (slots_of s) (slots_in c.vacate.new.self) s.kept.items s.kept.items (users_in s.users) s.counted c.args.place _ c.requires.taken.taken.within c.vacate.ensures.writes.slots refl (λ n. refl) c.at-slot.result.now.layout layout (subst (λ n. n < layouts_of s) layout (s.sound.known c.args.place c.requires.taken.taken.within).there) c.requires.taken.full refl)

@@ -1,7 +1,7 @@
 use Rattle.std.proofs.lemmas.Grind.{common_steps}
 use Rattle.std.proofs.Common.{◌≡◌, arith}
 use Rattle.descriptor_table.specs.Slots.{is_due, slot_at}
-use Rattle.descriptor_table.specs.Tables.{IsBack, generations_of, next_use, slots_of, used_for}
+use Rattle.descriptor_table.specs.Tables.{IsBack, removed_of, next_use, slots_of, used_for}
 use Rattle.descriptor_table.proofs.Turning.{due_not_listed, one_fewer, same_next, settled_grows, settled_here, settled_not_due, settled_set, stays_more, turn_step}
 use Rattle.descriptor_table.proofs.Listed.{with_use}
 use Rattle.descriptor_table.proofs.set_table.SetTable.settle_due.Goals.{After-settle}
@@ -9,14 +9,14 @@ use Rattle.descriptor_table.specs.declared.slot.Use.TheVariants.{Going, Taken}
 use Rattle.descriptor_table.proofs.set_table.SetTable.settle_due.Goals as goal
 
 -- the set that was picked settled
-settled : (g : _) (c : After-settle g) → slots_of c.settle.new.self ≡ with_use c.in-Some.place (next_use (generations_of c.args.self.now) c.args.self.now.keep (slots_of c.pick_due.new.self) c.in-Some.place) (slots_of c.pick_due.new.self)
+settled : (g : _) (c : After-settle g) → slots_of c.settle.new.self ≡ with_use c.in-Some.place (next_use (removed_of c.args.self.now) c.args.self.now.keep (slots_of c.pick_due.new.self) c.in-Some.place) (slots_of c.pick_due.new.self)
 settled g c = grind (arith, common_steps, same_next, stays_more, with_use)
 
 pub loop-place-preserved : goal.loop-place-preserved
 loop-place-preserved g c =
     let inv = c.loop-place.invariant in
     let picks = c.in-Some.ensures.slots in
-    let generations = generations_of c.args.self.now in
+    let removed = removed_of c.args.self.now in
     let max = c.args.self.now.keep in
     let now = slots_of c.loop-place.self in
     let mid = slots_of c.pick_due.new.self in
@@ -26,19 +26,19 @@ loop-place-preserved g c =
     let out = due_not_listed c.args.frame (slot_at now p) picks.was in
     record {
       turning =
-          turn_step (is_due c.args.frame) (IsBack (used_for Going) generations max) (slots_of c.args.self.now) now new p
-          (used_for (next_use generations max mid p) (slot_at now p)) inv.turning picks.within picks.was
-          (settled_set generations max now mid new p picks.within out Taken tt picks.slots is)
-          (settled_grows generations max now mid new p picks.within out Taken tt picks.slots is)
-          (settled_not_due generations c.args.frame max now)
-          (settled_here generations max now mid new p picks.within out Taken tt picks.slots is);
+          turn_step (is_due c.args.frame) (IsBack (used_for Going) removed max) (slots_of c.args.self.now) now new p
+          (used_for (next_use removed max mid p) (slot_at now p)) inv.turning picks.within picks.was
+          (settled_set removed max now mid new p picks.within out Taken tt picks.slots is)
+          (settled_grows removed max now mid new p picks.within out Taken tt picks.slots is)
+          (settled_not_due removed c.args.frame max now)
+          (settled_here removed max now mid new p picks.within out Taken tt picks.slots is);
       stays = stays_more c.args.self.now c.loop-place.self c.settle.new.self inv.stays (stays_more c.loop-place.self c.pick_due.new.self c.settle.new.self c.in-Some.ensures.stays c.settle.ensures.stays);
     }
 
 pub loop-place-smaller : goal.loop-place-smaller
 loop-place-smaller g c =
     let picks = c.in-Some.ensures.slots in
-    let generations = generations_of c.args.self.now in
+    let removed = removed_of c.args.self.now in
     let max = c.args.self.now.keep in
     let now = slots_of c.loop-place.self in
     let mid = slots_of c.pick_due.new.self in
@@ -46,9 +46,9 @@ loop-place-smaller g c =
     let p = c.in-Some.place in
     let is = settled g (goal.at.loop-place-smaller g c).After-settle in
     let out = due_not_listed c.args.frame (slot_at now p) picks.was in
-    one_fewer (is_due c.args.frame) now new p (used_for (next_use generations max mid p) (slot_at now p)) picks.within
+    one_fewer (is_due c.args.frame) now new p (used_for (next_use removed max mid p) (slot_at now p)) picks.within
     picks.was
-    (settled_not_due generations c.args.frame max new (slot_at now p)
-    (used_for (next_use generations max mid p) (slot_at now p))
-    (settled_here generations max now mid new p picks.within out Taken tt picks.slots is))
-    (settled_set generations max now mid new p picks.within out Taken tt picks.slots is)
+    (settled_not_due removed c.args.frame max new (slot_at now p)
+    (used_for (next_use removed max mid p) (slot_at now p))
+    (settled_here removed max now mid new p picks.within out Taken tt picks.slots is))
+    (settled_set removed max now mid new p picks.within out Taken tt picks.slots is)

@@ -1,5 +1,5 @@
-use Rattle.descriptor_table.specs.Slots.{is_due}
-use Rattle.descriptor_table.specs.Tables.{IsBack, Stays, count, generations_of, slots_of, used_for}
+use Rattle.descriptor_table.specs.Slots.{count, is_due}
+use Rattle.descriptor_table.specs.Tables.{IsBack, Stays, removed_of, slots_of, used_for}
 use Rattle.descriptor_table.proofs.Turning.{Turning}
 use Rattle.descriptor_table.specs.declared.slot.Use.TheVariants.{Going}
 use Rattle.descriptor_table.proofs.set_table.SetTable.settle_due.Given as goal
@@ -7,7 +7,7 @@ use Rattle.descriptor_table.proofs.set_table.SetTable.settle_due.Given as goal
 -- some of the due sets are settled
 abbrev pub invariant-loop-place : goal.invariant-loop-place
 invariant-loop-place g l = record {
-  turning : Turning (is_due l.frame) (IsBack (used_for Going) (generations_of l.fn.self) l.fn.self.keep) (slots_of l.fn.self) (slots_of l.self);
+  turning : Turning (is_due l.frame) (IsBack (used_for Going) (removed_of l.fn.self) l.fn.self.keep) (slots_of l.fn.self) (slots_of l.self);
   stays : Stays l.fn.self l.self;
 }
 

@@ -1,6 +1,6 @@
 use Rattle.std.proofs.Common.{◌≡◌, ◌∙◌, ℕ, false, is_some, sym, ap}
 use Rattle.descriptor_table.specs.Slots.{in_list, is_in, slot_at}
-use Rattle.descriptor_table.specs.Tables.{HasTaken, generations_of, next_use, slots_of, used_for}
+use Rattle.descriptor_table.specs.Tables.{HasTaken, removed_of, next_use, slots_of, used_for}
 use Rattle.descriptor_table.specs.declared.slot.Use.TheVariants.{Taken}
 use Rattle.descriptor_table.proofs.Holding.{first_none}
 use Rattle.descriptor_table.proofs.Listed.{with_use}
@@ -31,13 +31,13 @@ loop-index-preserved g c =
     let out : (k : ℕ) → is_in k (slot_at now p) ≡ false = (λ k. ap (λ u. in_list k u (slot_at now p).layout (slot_at now p).generation (is_some (slot_at now p).set)) taken.taken.taken) in
     let same : now ≡ with_use p Taken now = sym (same_use now p Taken taken.taken.taken taken.taken.within) in
     let made = c.settle.ensures.slots ∙ ap (λ u. with_use p u now) (same_next s c.loop-index.self inv.stays.settings now p) in
-    let u = next_use (generations_of s) s.keep now p in
+    let u = next_use (removed_of s) s.keep now p in
     record {
       first =
           next_turned g.N.SetName g.met.N.SetName.each _ _ _ _ _ inv.first c.index-names-index.result c.handle.result c.loop-index-test.true c.index-names-index.is c.handle.ensures c.requires.apart (used_for u (slot_at now p)) new taken.taken.within
-          (settled_set (generations_of s) s.keep now now new p taken.taken.within out Taken tt same made)
-          (settled_grows (generations_of s) s.keep now now new p taken.taken.within out Taken tt same made)
-          (settled_here (generations_of s) s.keep now now new p taken.taken.within out Taken tt same made);
+          (settled_set (removed_of s) s.keep now now new p taken.taken.within out Taken tt same made)
+          (settled_grows (removed_of s) s.keep now now new p taken.taken.within out Taken tt same made)
+          (settled_here (removed_of s) s.keep now now new p taken.taken.within out Taken tt same made);
       stays = stays_more s c.loop-index.self c.settle.new.self inv.stays c.settle.ensures.stays;
     }
 

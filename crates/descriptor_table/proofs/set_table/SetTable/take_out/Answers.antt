@@ -1,47 +1,39 @@
 use Rattle.std.proofs.lemmas.Grind.{common_steps}
-use Rattle.std.proofs.Common.{◌≡◌, ◌+◌, ◌<◌, true, refl, sym, ◌∙◌, subst, arith, rules}
-use Rattle.std.proofs.lemmas.Bool.{true≢false}
-use Rattle.descriptor_table.specs.Slots.{AreSound, IsNowhere, chain_at, chains_in, generations_in, is_in, nexts_in, slot_at, slots_in}
-use Rattle.descriptor_table.specs.Tables.{lists_of, vacated}
-use Rattle.descriptor_table.specs.declared.slot.ListHead.{ListHead}
-use Rattle.descriptor_table.specs.declared.slot.Use.TheVariants.{Vacant}
-use Rattle.descriptor_table.proofs.Chains.{link_linked, link_more, lists_apart, unheld}
-use Rattle.descriptor_table.proofs.Entries.{chain_was, chain_written, generations_stay, in_place, lists_stay}
-use Rattle.descriptor_table.proofs.Sound.{link_sound, listed, same_long}
-use Rattle.descriptor_table.proofs.set_table.SetTable.take_out.Goals.{After-index_mut-head}
+use Rattle.std.proofs.Common.{◌≡◌, ◌<◌, refl, subst, sym, ap, true, arith}
+use Rattle.descriptor_table.specs.Slots.{AreCounted, AreSound, IsNowhere, Slot, chains_in, is_in, slot_at, slots_in}
+use Rattle.descriptor_table.specs.Tables.{layouts_of, slots_of, vacated}
+use Rattle.descriptor_table.specs.Users.{users_in}
+use Rattle.descriptor_table.proofs.Numbers.{left_counted, set_user}
+use Rattle.descriptor_table.proofs.Writing.{few_more, front_sound}
+use Rattle.descriptor_table.proofs.set_table.SetTable.take_out.Goals.{After-leave}
 use Rattle.descriptor_table.proofs.set_table.SetTable.take_out.Goals as goal
 
--- a table that has a slot has its lists
-there : (g : _) (c : After-index_mut-head g) → 0 < lists_of c.args.self.now
-there g c = let known = (c.args.self.now.sound.known c.args.place c.requires.taken.within).there in omega arith
+pub leave-requires-clause-some : goal.leave-requires-clause-some
+leave-requires-clause-some g c = let s = c.args.self.now in grind (arith, common_steps, set_user (slots_of s) s.kept.items (users_in s.users) s.counted c.args.place)
 
--- the list that was read
-is_list : (g : _) (c : After-index_mut-head g) → c.index_mut-head.result.now.chain ≡ chain_at (chains_in c.args.self.now.lists.items) 0
-is_list g c = chain_was c.args.self.now.lists.items 0 c.index_mut-head.result.now c.index_mut-head.ensures.value (there g c)
+-- a call has the slot, and without its set it is vacant
+idle : (g : _) (c : After-leave g) → IsNowhere (slot_at (slots_of c.args.self.now) c.args.place).used
+idle g c = subst IsNowhere (sym c.requires.taken.taken.taken) tt
 
-idle : (g : _) (c : After-index_mut-head g) → IsNowhere (slot_at (slots_in c.args.self.now.slots) c.args.place).used
-idle g c = subst IsNowhere (sym c.requires.taken.taken) tt
-
--- without its set the slot is in that list
-goes : (g : _) (c : After-index_mut-head g) → is_in 0 (vacated (slot_at (slots_in c.args.self.now.slots) c.args.place)) ≡ true
+goes : (g : _) (c : After-leave g) → is_in 0 (vacated (slot_at (slots_of c.args.self.now) c.args.place)) ≡ true
 goes g c = grind (arith, common_steps)
 
-pub overflow_add-head : goal.overflow_add-head
-overflow_add-head g c =
+pub push-requires : goal.push-requires
+push-requires g c =
+    let d = (goal.at.push-requires g c).After-leave in
     let s = c.args.self.now in
-    search (rules, link_more (slots_in s.slots) (nexts_in s.slots) (chains_in s.lists.items) s.sound.linked 0 c.index_mut-head.result.now.chain (sym (is_list g (goal.at.overflow_add-head g c).After-index_mut-head)) c.args.place (vacated (slot_at (slots_in s.slots) c.args.place)))
+    omega (arith, few_more s 0 c.args.place (vacated (slot_at (slots_of s) c.args.place)) c.requires.taken.taken.within (idle g d) (goes g d))
 
-pub invariant_of-self-2 : goal.invariant_of-self-2
-invariant_of-self-2 g c =
+pub invariant_of-self-2-clause-sound : goal.invariant_of-self-2-clause-sound
+invariant_of-self-2-clause-sound g c =
+    let d = (goal.at.invariant_of-self-2-clause-sound g c).After-leave in
     let s = c.args.self.now in
-    let head = c.index_mut-head.result.now in
-    let a = (goal.at.invariant_of-self-2 g c).After-index_mut-head in
-    let is = sym (is_list g a) in
-    let new = vacated (slot_at (slots_in s.slots) c.args.place) in
-    let linked = link_linked (slots_in s.slots) (nexts_in s.slots) (chains_in s.lists.items) s.sound.linked 0 head.chain is c.args.place new c.requires.taken.within (idle g a) (goes g a) (same_long s.slots) (there g a) in
-    let sound = link_sound s.slots c.vacate-set.new.self (chains_in s.lists.items) (generations_in s.lists.items) s.waiting.items s.waiting.cap s.keep s.newest s.sound c.args.place new c.vacate-set.ensures.writes.slots 0 c.args.place head.chain _ is c.vacate-set.ensures.nexts linked (there g a) c.requires.taken.within (idle g a) (goes g a) (listed s.slots s.slots (chains_in s.lists.items) (generations_in s.lists.items) s.waiting.items s.waiting.cap s.keep s.newest s.sound c.args.place new c.requires.taken.within refl refl refl (λ kept. absurd (true≢false (sym kept ∙ lists_apart (new.layout + 2) 0 new (goes g a) (omega arith)))) (unheld Vacant refl)) (λ two. absurd (omega arith)) in
-    let now : ListHead = record { chain = record { first = c.args.place; count = head.chain.count + 1 }; generation = head.generation } in
-    record { sound = in_place (λ chains generations. AreSound c.vacate-set.new.self chains generations s.waiting.items s.waiting.cap s.keep s.newest) _ _ _ _ (chain_written s.lists.items 0 head c.index_mut-head.ensures.value now) (generations_stay s.lists.items 0 head c.index_mut-head.ensures.value now refl) sound }
+    subst (λ vacant. AreSound c.vacate-set.new.self (chains_in vacant s.going s.kept.items) (layouts_of s) s.waiting.items s.waiting.cap s.keep s.newest) (sym c.push.ensures)
+    (front_sound s 0 c.args.place (vacated (slot_at (slots_of s) c.args.place)) c.requires.taken.taken.within (idle g d) (goes g d) c.vacate-set.new.self c.vacate-set.ensures.writes.slots (omega arith) refl refl (λ two. absurd (omega arith)) c.vacate-set.ensures.nexts)
 
-pub returns-clause-changes : goal.returns-clause-changes
-returns-clause-changes g c = search (rules, generations_stay, lists_stay)
+pub invariant_of-self-2-clause-counted : goal.invariant_of-self-2-clause-counted
+invariant_of-self-2-clause-counted g c =
+    let s = c.args.self.now in
+    let layout = ap (λ (s : Slot g.row.T.Denot). s.layout) (sym c.at-slot.ensures.slot) in
+    subst (AreCounted (slots_in c.vacate-set.new.self) s.kept.items) (sym c.leave.ensures)
+    (left_counted (slots_of s) (slots_in c.vacate-set.new.self) s.kept.items s.kept.items (users_in s.users) s.counted c.args.place _ c.requires.taken.taken.within c.vacate-set.ensures.writes.slots refl (λ n. refl) c.at-slot.result.now.layout layout (subst (λ n. n < layouts_of s) layout (s.sound.known c.args.place c.requires.taken.taken.within).there) c.requires.taken.full refl)

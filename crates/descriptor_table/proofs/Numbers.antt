@@ -1,0 +1,175 @@
+-- The users of layouts: a number is free once, so the free ones have room; and users are the sets that there are, when a slot changes.
+use Rattle.std.proofs.lemmas.Grind.{common_steps}
+use Rattle.std.proofs.Common.{◌≡◌, ◌≢◌, ℕ, zero, suc, ◌+◌, ◌-◌, ◌<◌, ◌≤◌, true, false, List, [], ◌∷◌, ◌++◌, is_some, inl, inr, refl, ◌∙◌, length, set, sym, ap, arith, eq-eqb, ne_eqb, ◌&&◌, ◌==◌, if◌then◌else◌}
+use Rattle.std.proofs.lemmas.Bool.{and_right}
+use Rattle.std.proofs.lemmas.List.{get_or-set_other, get_or-set_same, get_or_past, get_or_append_left, get_or_push, length-set, length_push}
+use Rattle.descriptor_table.specs.Places.{AreFree, times, users_at}
+use Rattle.descriptor_table.specs.Slots.{AreCounted, Slot, no_slot, count, is_removed, is_set_of, removed_by, slot_at}
+use Rattle.descriptor_table.specs.Tables.{HasLayout, layouts_of, removed_of, slots_of}
+use Rattle.descriptor_table.specs.Users.{users_in}
+use Rattle.descriptor_table.specs.declared.set_table.SetTable.{SetTable}
+use Rattle.descriptor_table.specs.declared.slot.Chain.{Chain}
+use Rattle.descriptor_table.proofs.Counting.{below_or, same_or, times_here, times_there}
+use Rattle.descriptor_table.proofs.Entries.{removed_stays}
+use Rattle.descriptor_table.proofs.Growing.{chain_grown, count_grown}
+use Rattle.descriptor_table.proofs.Counts.{bit, count_less, count_set, none_count, same_count, some_count}
+
+-- how many places of a list are below this one
+abbrev below : ℕ → List ℕ → ℕ
+below zero l = 0
+below (suc n) l = times n l + below n l
+
+below_none : (n : ℕ) → below n [] ≡ 0
+below_none zero = omega arith
+below_none (suc n) = let h = below_none n in omega arith
+
+below_past : (n q : ℕ) (l : List ℕ) → n ≤ q → below n (q ∷ l) ≡ below n l
+below_past zero q l le = omega arith
+below_past (suc n) q l le = omega (arith, times_there n q l (λ e. omega arith), below_past n q l (omega arith))
+
+below_more : (n q : ℕ) (l : List ℕ) → q < n → below n (q ∷ l) ≡ below n l + 1
+below_more zero q l lt = absurd (omega arith)
+below_more (suc n) q l lt = elim (same_or n q) [
+  | inl e ↦ grind (arith, common_steps, times_here, below_past)
+  | inr ne ↦ omega (arith, times_there n q l ne, below_more n q l (omega arith))
+]
+
+below_all : (n : ℕ) (l : List ℕ) → ((p : ℕ) → n ≤ p → times p l ≡ 0) → below n l ≡ length l
+below_all n [] none = below_none n
+below_all n (q ∷ l) none = elim (below_or q n) [
+  | inl lt ↦ omega (arith, below_more n q l lt, below_all n l (λ p le. omega (arith, times_there p q l (λ e. omega arith), none p le)))
+  | inr le ↦ absurd (omega (arith, times_here q l, none q le))
+]
+
+module _ (l : List ℕ) (once : (p : ℕ) → times p l ≤ 1) where
+  below_few : (n : ℕ) → below n l ≤ n
+  below_few zero = omega arith
+  below_few (suc n) = omega (arith, once n, below_few n)
+
+  -- one place fewer if one is not there
+  below_less : (n m : ℕ) → m < n → times m l ≡ 0 → below n l + 1 ≤ n
+  below_less zero m lt out = absurd (omega arith)
+  below_less (suc n) m lt out = elim (same_or m n) [
+    | inl e ↦ grind (arith, common_steps, below_few)
+    | inr ne ↦ omega (arith, once n, below_less n m (omega arith) out)
+  ]
+
+-- while a number has users there is room for one more free number
+pub free_room : (free counts : List ℕ) → AreFree free counts → (m : ℕ) → m < length counts → users_at counts m ≢ 0 → length free + 1 ≤ length counts
+free_room free counts h m lt some =
+    omega (arith, below_all (length counts) free (λ p le. grind (arith, common_steps, h p, get_or_past)), below_less free (λ p. grind (arith, common_steps, h p)) (length counts) m lt (grind (arith, common_steps, h m)))
+
+-- a number that is put last is in the list once more
+pub times_last : (p q : ℕ) (l : List ℕ) → times p (l ++ q ∷ []) ≡ times p (q ∷ l)
+times_last p q [] = refl
+times_last p q (x ∷ l) = let h = times_last p q l in omega arith
+
+module _ (free counts : List ℕ) (h : AreFree free counts) (n : ℕ) (lt : n < length counts) where
+  -- a number that has users has others
+  pub free_same : (x : ℕ) → users_at counts n ≢ 0 → x ≢ 0 → AreFree free (set counts n x)
+  free_same x was now p = grind (arith, common_steps, h p, same_or p n, get_or-set_same, get_or-set_other)
+
+  -- it has none any more
+  pub free_more : users_at counts n ≢ 0 → AreFree (free ++ n ∷ []) (set counts n 0)
+  free_more was p = grind (arith, common_steps, h p, same_or p n, get_or-set_same, get_or-set_other, times_last p n free, times_here, times_there)
+
+-- a number that was free last has a user
+module _ (all free counts : List ℕ) (n : ℕ) (is : all ≡ free ++ n ∷ []) (h : AreFree all counts) where
+  times_all : (p : ℕ) → times p all ≡ times p (n ∷ free)
+  times_all p = ap (times p) is ∙ times_last p n free
+
+  pub last_within : n < length counts
+  last_within = elim (below_or n (length counts)) [
+    | inl lt ↦ lt
+    | inr le ↦ grind (arith, common_steps, h n, times_all n, times_here n free, get_or_past)
+  ]
+
+  pub last_free : users_at counts n ≡ 0
+  last_free = grind (arith, common_steps, h n, times_all n, times_here n free)
+
+  pub free_less : AreFree free (set counts n 1)
+  free_less p = grind (arith, common_steps, h p, h n, last_within, same_or p n, get_or-set_same, get_or-set_other, times_all p, times_here n free, times_there)
+
+module _ {T : Type 0} (slots slots' : List (Slot T)) (kept kept' : List Chain) (users : List ℕ) (h : AreCounted slots kept users) (p : ℕ) (s : Slot T) (within : p < length slots) (is : slots' ≡ set slots p s) (long : length kept' ≡ length kept) (removed : (n : ℕ) → removed_by kept' n ≡ removed_by kept n) where
+  -- a slot has a set of its layout as before
+  pub still_counted : s.layout ≡ (slot_at slots p).layout → is_some s.set ≡ is_some (slot_at slots p).set → AreCounted slots' kept' users
+  still_counted layout full = record {
+    long = h.long ∙ sym long;
+    each = λ n lt. grind (arith, common_steps, h.each n, removed n, same_count (is_set_of n) slots p s within);
+  }
+
+  -- a slot got a set
+  pub joined_counted : (layout : ℕ) → s.layout ≡ layout → layout < length kept → is_some (slot_at slots p).set ≡ false → is_some s.set ≡ true → AreCounted slots' kept' (set users layout (users_at users layout + 1))
+  joined_counted layout at there was now = record {
+    long = length-set users layout _ ∙ h.long ∙ sym long;
+    each = λ n lt. grind (arith, common_steps, h.each n, removed n, count_set (is_set_of n) slots p s within, same_or n layout, get_or-set_same, get_or-set_other, bit, h.long);
+  }
+
+  -- and lost it
+  pub left_counted : (layout : ℕ) → (slot_at slots p).layout ≡ layout → layout < length kept → is_some (slot_at slots p).set ≡ true → is_some s.set ≡ false → AreCounted slots' kept' (set users layout (users_at users layout - 1))
+  left_counted layout at there was now = record {
+    long = length-set users layout _ ∙ h.long ∙ sym long;
+    each = λ n lt. grind (arith, common_steps, h.each n, removed n, count_set (is_set_of n) slots p s within, same_or n layout, get_or-set_same, get_or-set_other, bit, h.long);
+  }
+
+-- the same of a table: a slot changed, but not its set
+module _ {T : Type 0} (t : SetTable T) (slots : List (Slot T)) (p : ℕ) (s : Slot T) (is : slots ≡ set (slots_of t) p s) (within : p < length (slots_of t)) (same : s.layout ≡ (slot_at (slots_of t) p).layout) (full : is_some s.set ≡ is_some (slot_at (slots_of t) p).set) where
+  pub slot_counted : AreCounted slots t.kept.items (users_in t.users)
+  slot_counted = still_counted (slots_of t) slots t.kept.items t.kept.items (users_in t.users) t.counted p s within is refl (λ n. refl) same full
+
+  -- and a list of kept sets
+  pub list_counted : (layout : ℕ) (c : Chain) → layout < layouts_of t → is_removed c ≡ removed_of t layout → AreCounted slots (set t.kept.items layout c) (users_in t.users)
+  list_counted layout c there removed = still_counted (slots_of t) slots t.kept.items (set t.kept.items layout c) (users_in t.users) t.counted p s within is (length-set t.kept.items layout c) (removed_stays t.kept.items layout c there removed) same full
+
+-- the layout of a set has users
+pub set_user : {T : Type 0} (slots : List (Slot T)) (kept : List Chain) (users : List ℕ) → AreCounted slots kept users → (p : ℕ) → is_some (slot_at slots p).set ≡ true → (slot_at slots p).layout < length kept → users_at users (slot_at slots p).layout ≢ 0
+set_user slots kept users h p full there = let n = (slot_at slots p).layout in omega (arith, h.each n there, some_count (is_set_of n) slots p refl (ap (λ b. b && (n == n)) full ∙ eq-eqb n n refl))
+
+-- a layout that is there has users, and not so many that a set that comes to a slot is one too many
+module _ {T : Type 0} (t : SetTable T) (layout : ℕ) (has : HasLayout layout t) where
+  users_are : users_at (users_in t.users) layout ≡ count (is_set_of layout) (slots_of t) + 1
+  users_are = t.counted.each layout has.within ∙ ap (λ b. count (is_set_of layout) (slots_of t) + (if b then 0 else 1)) has.there
+
+  pub there_user : users_at (users_in t.users) layout ≢ 0
+  there_user e = let is = users_are in omega arith
+
+  pub few_users : (p : ℕ) → p < length (slots_of t) → is_some (slot_at (slots_of t) p).set ≡ false → users_at (users_in t.users) layout < 4294967295
+  few_users p within none = omega (arith, users_are, t.sound.size, count_less (is_set_of layout) (slots_of t) p within (ap (λ b. b && ((slot_at (slots_of t) p).layout == layout)) none))
+
+-- a layout was removed
+pub removed_counted : {T : Type 0} (t : SetTable T) (layout : ℕ) (c : Chain) → HasLayout layout t → is_removed c ≡ true → AreCounted (slots_of t) (set t.kept.items layout c) (set (users_in t.users) layout (users_at (users_in t.users) layout - 1))
+removed_counted t layout c has removed = record {
+  long = length-set (users_in t.users) layout _ ∙ t.counted.long ∙ sym (length-set t.kept.items layout c);
+  each = λ n lt. grind (arith, common_steps, t.counted.each n, users_are t layout has, same_or n layout, get_or-set_same, get_or-set_other, length-set, t.counted.long);
+}
+
+-- a number without users has no set, and its layout was removed; it has another one
+module _ {T : Type 0} (t : SetTable T) (layout : ℕ) (within : layout < length (users_in t.users)) (free : users_at (users_in t.users) layout ≡ 0) where
+  pub free_is : (layout < layouts_of t) × (removed_of t layout ≡ true) × (count (is_set_of layout) (slots_of t) ≡ 0)
+  free_is = grind (arith, common_steps, t.counted.long, t.counted.each layout)
+
+  pub renewed_counted : (c : Chain) → is_removed c ≡ false → AreCounted (slots_of t) (set t.kept.items layout c) (set (users_in t.users) layout 1)
+  renewed_counted c there = record {
+    long = length-set (users_in t.users) layout _ ∙ t.counted.long ∙ sym (length-set t.kept.items layout c);
+    each = λ n lt. grind (arith, common_steps, t.counted.each n, free_is, same_or n layout, get_or-set_same, get_or-set_other, length-set, t.counted.long);
+  }
+
+-- one layout more, of which there is no set
+pub added_counted : {T : Type 0} (t : SetTable T) → AreCounted (slots_of t) (t.kept.items ++ record { first = 0; count = 0 } ∷ []) (users_in t.users ++ 1 ∷ [])
+added_counted {T} t = record {
+  long = length_push (users_in t.users) 1 ∙ ap (λ n. n + 1) t.counted.long ∙ sym (length_push t.kept.items _);
+  each = λ n lt. elim (same_or n (layouts_of t)) [
+    | inl e ↦ omega (arith, get_or_push (users_in t.users) 1 1 n (t.counted.long ∙ sym e), none_count (is_set_of n) (slots_of t) (none n e), ap {B = ℕ} (λ (c : Chain). if is_removed c then 0 else 1) (chain_grown t.kept.items n ∙ get_or_past t.kept.items n _ (omega arith)))
+    | inr ne ↦ (let less : n < layouts_of t = (let long = length_push t.kept.items (record { first = 0; count = 0 }) in grind (arith, common_steps)) in omega (arith, t.counted.each n less, get_or_append_left (users_in t.users) (1 ∷ []) 1 n (let long = t.counted.long in omega arith), ap {B = ℕ} (λ (c : Chain). if is_removed c then 0 else 1) (chain_grown t.kept.items n)))
+  ];
+}
+  where
+    none : (n : ℕ) → n ≡ layouts_of t → (p : ℕ) → is_set_of n (slot_at (slots_of t) p) ≡ false
+    none n e p = elim (below_or p (length (slots_of t))) [
+      | inl lt ↦ and_right _ _ (ne_eqb _ n (λ same. (let known = (t.sound.known p lt).there in omega arith)))
+      | inr le ↦ ap (is_set_of n) (get_or_past (slots_of t) p no_slot le)
+    ]
+
+-- a slot without a set at the end
+pub grown_counted : {T : Type 0} (t : SetTable T) (slots : List (Slot T)) → slots ≡ slots_of t ++ no_slot ∷ [] → AreCounted slots t.kept.items (users_in t.users)
+grown_counted t slots is = record { long = t.counted.long; each = λ n lt. omega (arith, t.counted.each n lt, ap (count (is_set_of n)) is, count_grown (is_set_of n) (slots_of t) no_slot) }

@@ -1,0 +1,20 @@
+use Rattle.std.proofs.Common.{◌≡◌, ◌+◌, ◌-◌, ◌≤◌, subst, arith}
+use Rattle.descriptor_table.specs.Slots.{count, is_in, nexts_in}
+use Rattle.descriptor_table.specs.Tables.{chains_of, slots_of}
+use Rattle.descriptor_table.proofs.Counts.{chain_count}
+use Rattle.descriptor_table.proofs.set_table.SetTable.set_max_kept.Goals as goal
+
+pub invariant_of-self-clause-sound : goal.invariant_of-self-clause-sound
+invariant_of-self-clause-sound g c =
+    let s = c.args.self.now in
+    let was = s.sound in
+    record {
+      size = was.size;
+      fits = was.fits;
+      linked = was.linked;
+      queue = was.queue;
+      known = was.known;
+      few = λ k two.
+          let same : k - 2 + 2 ≡ k = omega arith in
+          omega (arith, chain_count (slots_of s) (nexts_in s.slots) (chains_of s) s.sound.linked k, subst (λ k. count (is_in k) (slots_of s) ≤ c.args.max) same (c.requires (k - 2)));
+    }

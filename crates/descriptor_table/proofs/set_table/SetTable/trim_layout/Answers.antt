@@ -1,0 +1,29 @@
+use Rattle.std.proofs.Common.{◌+◌, arith}
+use Rattle.descriptor_table.specs.Slots.{Slot, is_kept_of}
+use Rattle.descriptor_table.specs.Tables.{slots_of}
+use Rattle.descriptor_table.proofs.Counts.{none_count}
+use Rattle.descriptor_table.proofs.Turning.{go_less, go_step, going_out, stays_more}
+use Rattle.descriptor_table.proofs.set_table.SetTable.trim_layout.Goals as goal
+
+pub unreachable-requires : goal.unreachable-requires
+unreachable-requires g c = omega (arith, c.loop-self.self, c.count.ensures, none_count (is_kept_of c.args.layout) (slots_of c.loop-self.self) c.in-None.ensures.slots.none, c.loop-self-test.true)
+
+pub returns-clause-few : goal.returns-clause-few
+returns-clause-few g c = omega (arith, c.count.ensures, c.loop-self-test.false)
+
+pub loop-self-smaller : goal.loop-self-smaller
+loop-self-smaller g c = omega (arith, go_less (is_kept_of c.args.layout) (slots_of c.loop-self.self) (slots_of c.pick.new.self) (slots_of c.let_go.new.self) c.in-Some.place c.in-Some.ensures.slots c.let_go.ensures.slots (λ s. going_out (c.args.layout + 2) s (omega arith)))
+
+pub loop-self-preserved : goal.loop-self-preserved
+loop-self-preserved g c =
+    let inv = c.loop-self.invariant in
+    let picks = c.in-Some.ensures in
+    let now = slots_of c.loop-self.self in
+    let mid = slots_of c.pick.new.self in
+    let new = slots_of c.let_go.new.self in
+    let out = λ (s : Slot g.row.T.Denot). going_out (c.args.layout + 2) s (omega arith) in
+    record {
+      turning = go_step (is_kept_of c.args.layout) now mid new c.in-Some.place picks.slots c.let_go.ensures.slots out (slots_of c.args.self.now) inv.turning;
+      enough = λ n le has. omega (arith, c.count.ensures, c.loop-self-test.true, go_less (is_kept_of c.args.layout) now mid new c.in-Some.place picks.slots c.let_go.ensures.slots out, inv.enough n le has);
+      stays = stays_more c.args.self.now c.loop-self.self c.let_go.new.self inv.stays (stays_more c.loop-self.self c.pick.new.self c.let_go.new.self picks.stays c.let_go.ensures.stays);
+    }

@@ -1,0 +1,16 @@
+use Rattle.descriptor_table.specs.Slots.{count, is_kept_of}
+use Rattle.descriptor_table.specs.Tables.{KeepsUpTo, Stays, slots_of, used_for, Becomes}
+use Rattle.descriptor_table.proofs.Turning.{Turning}
+use Rattle.descriptor_table.specs.declared.slot.Use.TheVariants.{Going}
+use Rattle.descriptor_table.proofs.set_table.SetTable.trim_layout.Given as goal
+
+-- some sets of the list go
+abbrev pub invariant-loop-self : goal.invariant-loop-self
+invariant-loop-self g l = record {
+  turning : Turning (is_kept_of l.layout) (Becomes (used_for Going)) (slots_of l.fn.self) (slots_of l.self);
+  enough : KeepsUpTo l.max (is_kept_of l.layout) (slots_of l.fn.self) (slots_of l.self);
+  stays : Stays l.fn.self l.self;
+}
+
+abbrev pub decreases-loop-self : goal.decreases-loop-self
+decreases-loop-self g l = count (is_kept_of l.layout) (slots_of l.self)
