@@ -83,14 +83,7 @@ impl<T> SetTable<T> {
         };
         self.vacant.pop(slot.next);
         let name = N::of(handle, Some(&set));
-        self.slots.fill(
-            place as usize,
-            handle.generation,
-            layout,
-            group,
-            set,
-            used,
-        );
+        self.slots.fill(place as usize, handle.generation, layout, group, set, used);
         self.users.join(layout as usize);
         enqueue(
             &mut self.waiting,
