@@ -35,8 +35,8 @@ module _ {T : Type 0} (s : SetTable T) (k : ℕ) (some : 0 < count (is_in k) (sl
       still = let long = ap length slots ∙ length-set (slots_of s) c.first new in let first = first.0 in omega arith
 
       -- it left the list, perhaps for the queue
-      pub left_sound : {after : ℕ} {waiting : List ℕ} {room newest : ℕ} → after ≡ get_or (nexts_in s.slots) c.first 0 → nexts_in l ≡ nexts_in s.slots → is_live (frame_of new.used) true new.used ≡ true → new.layout < layouts_of s → new.kept_below ≤ 4294967295 → is_some new.set ≡ true → room ≡ deque_capacity s.waiting → IsQueue (slots_in l) waiting newest → AreSound l (set (chains_of s) k (record { first = after; count = c.count - 1 })) (layouts_of s) waiting room s.keep newest
-      left_sound {after} {waiting} {room} {newest} next nexts live layout below full same queue =
+      pub left_sound : {after : ℕ} {waiting : List ℕ} {room newest : ℕ} → after ≡ get_or (nexts_in s.slots) c.first 0 → nexts_in l ≡ nexts_in s.slots → is_live (frame_of new.used) true new.used ≡ true → new.layout < layouts_of s → is_some new.set ≡ true → room ≡ deque_capacity s.waiting → IsQueue (slots_in l) waiting newest → AreSound l (set (chains_of s) k (record { first = after; count = c.count - 1 })) (layouts_of s) waiting room s.keep newest
+      left_sound {after} {waiting} {room} {newest} next nexts live layout full same queue =
           grind (arith, common_steps, live_no_list new live, pick_sound s.slots l (chains_of s) (layouts_of s) s.waiting.items (deque_capacity s.waiting) s.keep s.newest s.sound c.first new slots k c after waiting newest is more there next refl nexts (live_no_list new live))
 
     -- or a call has it
@@ -45,5 +45,5 @@ module _ {T : Type 0} (s : SetTable T) (k : ℕ) (some : 0 < count (is_in k) (sl
         let new = used_for Taken (slot_at (slots_of s) c.first) in
         let out = listed_out k (slot_at (slots_of s) c.first) first.1 in
         pick_sound s.slots l (chains_of s) (layouts_of s) s.waiting.items (deque_capacity s.waiting) s.keep s.newest s.sound c.first new slots k c after s.waiting.items s.newest is more there next refl nexts (λ j. refl)
-        (listed s.slots l (chains_of s) (layouts_of s) s.waiting.items (deque_capacity s.waiting) s.keep s.newest s.sound c.first new first.0 refl refl (unheld Taken refl))
+        (listed s.slots l (chains_of s) (layouts_of s) s.waiting.items (deque_capacity s.waiting) s.keep s.newest s.sound c.first new first.0 refl (unheld Taken refl))
         (out_queue (slots_of s) s.waiting.items s.newest s.sound.queue c.first new first.0 out refl)

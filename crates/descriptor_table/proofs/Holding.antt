@@ -139,7 +139,13 @@ module _ {T : Type 0} where
   -- once all have turned, each handle had a held set, and none is in the list twice
   module _ (number : ℕ) (handles : List SetHandle) (becomes : List (Slot T) → Slot T → Slot T → Type 0) (n : ℕ) (old now : List (Slot T)) (all : length handles ≤ n) (some : TurnedSome number handles becomes n old now) where
     pub turned_all : AreHeldOnce number old handles
-    turned_all = search (rules, same_default)
+    turned_all =
+        let z : SetHandle = record { manager = 0; place = 0; generation = 0 } in
+        let few = some.few in
+        record {
+          held = λ i d lt. some.held i d (omega arith);
+          once = λ i j d less lt same. some.apart i j less (omega arith) (ap (λ (h : SetHandle). h.place) (same_default handles i z d (omega arith) ∙ same ∙ same_default handles j d z lt));
+        }
 
     pub turned_each : TurnEach handles becomes old now
     turned_each = (let few = some.few in first_all handles becomes n old now (omega arith) some.first)

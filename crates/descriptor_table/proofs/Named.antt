@@ -1,5 +1,5 @@
 -- Names whose held sets turn, one after another, unless one of them doesn't fit its set, or its handle has no held set, or is there
--- twice: for `SetTable::take_each` and `keep_first`. Then names of sets that a call has taken: for `settle_each` and `wait_each`.
+-- twice: for `SetTable::take_each` and `keep_each`. Then names of sets that a call has taken: for `settle_each` and `wait_each`.
 use Rattle.std.proofs.lemmas.Grind.{common_steps}
 use Rattle.std.proofs.Common.{◌≡◌, ◌≢◌, ℕ, ◌+◌, ◌<◌, ◌≤◌, ◌&&◌, true, false, Bool, List, length, map, get_or, set, inl, inr, refl, sym, ap, subst, ◌∙◌, arith}
 use Rattle.std.proofs.lemmas.List.{get_or_default}

@@ -69,7 +69,7 @@ module _ {T : Type 0} where
     -- the handles name nothing, and each other one what it named
     pub names_lost : LoseNames handles (sets_of number frame opened old) (sets_of number frame opened new)
     names_lost = record {
-      gone = search (rules, if_neither, same_default);
+      gone = λ i d lt. if_neither _ _ _ (ap (λ (h : SetHandle). is_live frame opened (slot_at new h.place).used) (same_default handles i d zero_handle lt) ∙ quiet i lt);
       others = λ other apart. search (rules, removed, if_not, named_or, not_last);
       given = λ h. ap (λ g. (h.manager == number) && (nat_lt 0 h.generation && nat_le h.generation g)) (removed h.place);
     }

@@ -17,8 +17,8 @@ same_long l = search (rules, length-map)
 
 module _ {T : Type 0} (l l' : SlotList T) (chains : List Chain) (layouts : ℕ) (waiting : List ℕ) (room keep newest : ℕ) (h : AreSound l chains layouts waiting room keep newest) where
   -- a slot with another use keeps its layout
-  pub listed : (p : ℕ) (s : Slot T) → p < length (slots_in l) → s.layout ≡ (slot_at (slots_in l) p).layout → s.kept_below ≡ (slot_at (slots_in l) p).kept_below → (s.used ≡ Held → is_some s.set ≡ true) → IsListed layouts s
-  listed p s within layout below full = search rules
+  pub listed : (p : ℕ) (s : Slot T) → p < length (slots_in l) → s.layout ≡ (slot_at (slots_in l) p).layout → (s.used ≡ Held → is_some s.set ≡ true) → IsListed layouts s
+  listed p s within layout full = search rules
 
   module _ (p : ℕ) (s : Slot T) (slots : slots_in l' ≡ set (slots_in l) p s) where
     -- there are as many slots as before
@@ -33,8 +33,8 @@ module _ {T : Type 0} (l l' : SlotList T) (chains : List Chain) (layouts : ℕ) 
     queued waiting' newest' within here nexts was now queue = grind (arith, common_steps, known, long, out_linked)
 
     -- a slot that is in no list, and not in the queue, came to neither
-    pub out_sound : p < length (slots_in l) → nexts_in l' ≡ nexts_in l → (waits (slot_at (slots_in l) p) ≡ false) × ((k : ℕ) → is_in k (slot_at (slots_in l) p) ≡ false) → (waits s ≡ false) × ((k : ℕ) → is_in k s ≡ false) → s.layout ≡ (slot_at (slots_in l) p).layout → s.kept_below ≡ (slot_at (slots_in l) p).kept_below → (s.used ≡ Held → is_some s.set ≡ true) → AreSound l' chains layouts waiting room keep newest
-    out_sound within nexts was now layout below full = grind (arith, common_steps, listed, queued waiting newest within, out_queue (slots_in l) waiting newest h.queue p s within)
+    pub out_sound : p < length (slots_in l) → nexts_in l' ≡ nexts_in l → (waits (slot_at (slots_in l) p) ≡ false) × ((k : ℕ) → is_in k (slot_at (slots_in l) p) ≡ false) → (waits s ≡ false) × ((k : ℕ) → is_in k s ≡ false) → s.layout ≡ (slot_at (slots_in l) p).layout → (s.used ≡ Held → is_some s.set ≡ true) → AreSound l' chains layouts waiting room keep newest
+    out_sound within nexts was now layout full = grind (arith, common_steps, listed, queued waiting newest within, out_queue (slots_in l) waiting newest h.queue p s within)
 
     -- the first slot of a list left it, perhaps for the queue
     pub pick_sound : (k : ℕ) (c : Chain) (after : ℕ) (waiting' : List ℕ) (newest' : ℕ) → chain_at chains k ≡ c → c.count ≢ 0 → k < length chains → after ≡ get_or (nexts_in l) p 0 → p ≡ c.first → nexts_in l' ≡ nexts_in l → ((j : ℕ) → is_in j s ≡ false) → IsListed layouts s → IsQueue (set (slots_in l) p s) waiting' newest' → AreSound l' (set chains k (record { first = after; count = c.count - 1 })) layouts waiting' room keep newest'
@@ -57,5 +57,5 @@ module _ {T : Type 0} (l l' : SlotList T) (chains : List Chain) (layouts : ℕ) 
   emptied_sound k c none empty there = grind (arith, common_steps, few_set, length-set, empty_linked (slots_in l) (nexts_in l) chains h.linked k c)
 
   -- one layout more
-  pub layout_sound : AreSound l (chains ++ record { first = 0; count = 0 } ∷ []) (layouts + 1) waiting room keep newest
-  layout_sound = grind (arith, common_steps, chain_grown chains)
+  pub layout_sound : layouts < 2147483648 → AreSound l (chains ++ record { first = 0; count = 0 } ∷ []) (layouts + 1) waiting room keep newest
+  layout_sound few = grind (arith, common_steps, chain_grown chains)

@@ -66,7 +66,7 @@ module _ {T : Type 0} where
   pub back_only : (removed : ℕ → Bool) (max : ℕ) (l : List (Slot T)) (o x : Slot T) → holds o ≡ true → IsBack (used_for Going) removed max l o x → (x ≡ used_for x.used o) × CanBeHeld x
   back_only removed max l o x held (inl kept) =
       let full = (and_true (is_held_use o.used) (is_some o.set) held).1 in
-      let young = (and_true (nat_lt o.generation 4294967295) (nat_lt o.generation o.kept_below) (and_true (nat_lt o.generation 4294967295 && nat_lt o.generation o.kept_below) (not (removed o.layout)) kept.1).0).0 in (
+      let young = (and_true (nat_lt o.generation 4294967295) (not o.is_aged) (and_true (nat_lt o.generation 4294967295 && not o.is_aged) (not (removed o.layout)) kept.1).0).0 in (
         kept.0 ∙ ap (λ u. used_for u o) (sym (ap (λ (s : Slot T). s.used) kept.0)),
         (ap (λ (s : Slot T). is_some s.set) kept.0 ∙ full, inr (o.layout + 2, λ e. omega arith, ap (is_in (o.layout + 2)) kept.0 ∙ ap (λ b. b && (nat_lt o.generation 4294967295 && is_some o.set)) (eq-eqb (o.layout + 2) (o.layout + 2) refl) ∙ ap (λ b. b && is_some o.set) young ∙ full)),
       )

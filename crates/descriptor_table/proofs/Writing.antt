@@ -59,9 +59,9 @@ module _ {T : Type 0} (t : SetTable T) (k p : ℕ) (s : Slot T) (within : p < le
   pub few_more : (chain_at (chains_of t) k).count + 1 < 4294967295
   few_more = omega (arith, link_more (slots_of t) (nexts_in t.slots) (chains_of t) t.sound.linked k (chain_at (chains_of t) k) refl p s within idle goes, t.sound.size)
 
-  module _ (l : SlotList T) (slots : slots_in l ≡ set (slots_of t) p s) (there : k < length (chains_of t)) (layout : s.layout ≡ (slot_at (slots_of t) p).layout) (below : s.kept_below ≡ (slot_at (slots_of t) p).kept_below) (few : 2 ≤ k → (chain_at (chains_of t) k).count < t.keep) where
+  module _ (l : SlotList T) (slots : slots_in l ≡ set (slots_of t) p s) (there : k < length (chains_of t)) (layout : s.layout ≡ (slot_at (slots_of t) p).layout) (few : 2 ≤ k → (chain_at (chains_of t) k).count < t.keep) where
     came_sound : (first : ℕ) (next : List ℕ) → nexts_in l ≡ next → AreLinked (set (slots_of t) p s) next (set (chains_of t) k (record { first = first; count = (chain_at (chains_of t) k).count + 1 })) → AreSound l (set (chains_of t) k (record { first = first; count = (chain_at (chains_of t) k).count + 1 })) (layouts_of t) t.waiting.items (deque_capacity t.waiting) t.keep t.newest
-    came_sound first next nexts linked = link_sound t.slots l (chains_of t) (layouts_of t) t.waiting.items (deque_capacity t.waiting) t.keep t.newest t.sound p s slots k first (chain_at (chains_of t) k) next refl nexts linked there within idle goes (listed t.slots l (chains_of t) (layouts_of t) t.waiting.items (deque_capacity t.waiting) t.keep t.newest t.sound p s within layout below (λ held. absurd (held_nowhere s k goes held))) few
+    came_sound first next nexts linked = link_sound t.slots l (chains_of t) (layouts_of t) t.waiting.items (deque_capacity t.waiting) t.keep t.newest t.sound p s slots k first (chain_at (chains_of t) k) next refl nexts linked there within idle goes (listed t.slots l (chains_of t) (layouts_of t) t.waiting.items (deque_capacity t.waiting) t.keep t.newest t.sound p s within layout (λ held. absurd (held_nowhere s k goes held))) few
 
     -- first
     pub front_sound : nexts_in l ≡ set (nexts_in t.slots) p (chain_at (chains_of t) k).first → AreSound l (set (chains_of t) k (record { first = p; count = (chain_at (chains_of t) k).count + 1 })) (layouts_of t) t.waiting.items (deque_capacity t.waiting) t.keep t.newest

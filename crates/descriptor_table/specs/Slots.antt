@@ -1,5 +1,5 @@
 -- Slots, and the lists that they are in.
-use Rattle.std.specs.Prelude.{map, slice_set, vec_capacity, Option, Some, ◌≡◌, ℕ, ◌+◌, ◌<◌, ◌≤◌, ◌==◌, ◌&&◌, nat_le, nat_lt, Bool, true, false, List, [], ◌∷◌, length, ⊤, slice_index_or, if◌then◌else◌, None, is_some, not}
+use Rattle.std.specs.Prelude.{map, slice_set, vec_capacity, Option, Some, ◌≡◌, ℕ, ◌+◌, ◌%◌, ◌<◌, ◌≤◌, ◌==◌, ◌&&◌, nat_le, nat_lt, Bool, true, false, List, [], ◌∷◌, length, ⊤, slice_index_or, if◌then◌else◌, None, is_some, not}
 use Rattle.std.specs.List.Sorted.{IsNonDecreasingBy}
 use Rattle.descriptor_table.specs.Places.{times, users_at, walk}
 use Rattle.descriptor_table.specs.declared.slot.Use.{Use}
@@ -16,8 +16,8 @@ pub record Slot (T : Type 0) : Type 0 where
   pub generation : ℕ
   pub layout : ℕ
   pub used : Use
-  -- below this generation the set may be kept once it is freed: 0 if it was there at the last cleanup
-  pub kept_below : ℕ
+  -- whether the set was there at the last cleanup, so that it isn't kept once it is freed
+  pub is_aged : Bool
   pub set : Option T
 
 -- the use of a state, with this frame if it has one
@@ -87,7 +87,7 @@ Slots T = List (Slot T)
 module _ {T : Type 0} where
   -- the slot past the end, which never had a set
   abbrev pub no_slot : Slot T
-  no_slot = record { generation = 0; layout = 0; used = Taken; kept_below = 0; set = None }
+  no_slot = record { generation = 0; layout = 0; used = Taken; is_aged = true; set = None }
 
   -- the slot at a place, or else the slot past the end
   abbrev pub slot_at : Slots T → ℕ → Slot T
@@ -95,11 +95,11 @@ module _ {T : Type 0} where
 
   -- the slot with this set, which a call has taken
   abbrev pub filled : ℕ → T → Slot T → Slot T
-  filled layout set s = record s { layout = layout; used = Taken; kept_below = 4294967295; set = Some set }
+  filled layout set s = record s { layout = layout; used = Taken; is_aged = false; set = Some set }
 
   -- the slot that an entry stands for. Contracts see slots, so how an entry packs one is proved in the file of SlotList alone
   abbrev pub slot_of : Entry T → Slot T
-  slot_of e = record { generation = e.generation; layout = e.layout; used = use_of e.frame e.state; kept_below = e.kept_below; set = e.set }
+  slot_of e = record { generation = e.generation; layout = e.list % 2147483648; used = use_of e.frame e.state; is_aged = nat_le 2147483648 e.list; set = e.set }
 
   -- the slots of a list
   abbrev pub slots_in : SlotList T → Slots T
@@ -157,7 +157,6 @@ module _ {T : Type 0} where
   pub record IsListed (layouts : ℕ) (s : Slot T) : Type 0 where
     pub there : s.layout < layouts
     pub full : s.used ≡ Held → is_some s.set ≡ true
-    pub kept_below : s.kept_below ≤ 4294967295
 
   -- each slot has its list
   abbrev pub HasLists : Slots T → ℕ → Type 0
@@ -167,6 +166,8 @@ module _ {T : Type 0} where
   pub record AreSound (l : SlotList T) (chains : List Chain) (layouts : ℕ) (waiting : List ℕ) (room keep newest : ℕ) : Type 0 where
     -- fewer than the count that marks the list of a removed layout
     pub size : length (slots_in l) < 4294967295
+    -- a greater number is that of a set that isn't kept
+    pub numbers : layouts ≤ 2147483648
     -- one place for each slot, so that a set can wait without an allocation
     pub fits : length (slots_in l) ≤ room
     pub linked : AreLinked (slots_in l) (nexts_in l) chains

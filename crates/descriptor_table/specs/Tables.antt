@@ -94,6 +94,7 @@ module _ {T : Type 0} where
 
   -- there is memory for one more layout
   pub record HasListRoom (t : SetTable T) : Type 0 where
+    pub few : layouts_of t < 2147483648
     pub kept : layouts_of t + 1 ≤ vec_capacity t.kept
     pub users : HasNumberRoom t.users
 
@@ -145,7 +146,7 @@ module _ {T : Type 0} where
 
   -- whether a set may be kept: it is newer than the last cleanup, its place has a generation left, and its layout was not removed
   abbrev pub stays : (ℕ → Bool) → Slot T → Bool
-  stays removed s = (nat_lt s.generation 4294967295 && nat_lt s.generation s.kept_below) && not (removed s.layout)
+  stays removed s = (nat_lt s.generation 4294967295 && not s.is_aged) && not (removed s.layout)
 
   -- whether a set is kept, if at most `max` of its layout are
   abbrev pub may_stay : (ℕ → Bool) → ℕ → Slots T → Slot T → Bool
@@ -187,7 +188,7 @@ module _ {T : Type 0} where
 
   -- the slot, whose set isn't kept once it is freed
   abbrev pub aged : Slot T → Slot T
-  aged s = record s { kept_below = 0 }
+  aged s = record s { is_aged = true }
 
   -- each slot has a set, or had its last generation
   abbrev pub AreAllUsed : Slots T → Type 0

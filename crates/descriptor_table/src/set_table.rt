@@ -15,7 +15,7 @@ mod waiting;
 
 use crate::handle::{SetHandle, SetName};
 use crate::slot::{Chain, Use};
-use crate::slot_list::SlotList;
+use crate::slot_list::{AGED, SlotList};
 use crate::users::LayoutUsers;
 use std::alloc::{AllocError, Global};
 use std::collections::VecDeque;
@@ -23,6 +23,9 @@ use std::vec::Vec;
 
 /// The max number of slots.
 const MAX_SLOTS: u64 = u32::MAX as u64 - 1;
+
+/// The max number of layouts.
+pub(crate) const MAX_LAYOUTS: usize = AGED as usize;
 
 /// How many groups of sets that go there are.
 pub(crate) const GROUPS: usize = 8;

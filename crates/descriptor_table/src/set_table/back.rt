@@ -1,6 +1,6 @@
 //! Sets that are freed: each is kept, or goes. A set that goes joins the list of those that return to
 //! their pools.
-ghost use Rattle.std.specs.Prelude.{◌≡◌, ◌≢◌, ◌↔◌, ◌+◌, ◌<◌, ◌≤◌, ◌&&◌, ℕ, true, false, IsFalse, IsTrue, is_some, length, slice_set, take, List, if◌then◌else◌};
+ghost use Rattle.std.specs.Prelude.{◌≡◌, ◌≢◌, ◌↔◌, ◌+◌, ◌<◌, ◌≤◌, ◌&&◌, ℕ, true, false, IsFalse, IfSome, IsTrue, is_some, length, slice_set, take, List, if◌then◌else◌};
 
 use super::SetTable;
 use crate::giving::Group;
@@ -17,15 +17,19 @@ impl<T> SetTable<T> {
     ghost use Rattle.descriptor_table.specs.Tables.{may_stay, next_use, place_at};
     ghost use Rattle.descriptor_table.specs.Tables.{slots_of, used_for};
 
-    /// Whether a set that is freed may be kept.
+    /// The layout under which a set that is freed is kept, if it may be.
     #[inline]
-    fn may_stay(&self, place: usize) -> bool
+    fn list_of_freed(&self, place: usize) -> Option<usize>
         requires { place < length (slots_of self.now) }
-        ensures { result ≡ may_stay (removed_of self.now) self.now.keep
+        ensures may { is_some result ≡ may_stay (removed_of self.now) self.now.keep
             (slots_of self.now) (slot_at (slots_of self.now) place) }
+        ensures layout { IfSome result (λ layout. layout ≡ (slot_at (slots_of self.now) place).layout) }
     {
         let slot = self.slots.at(place);
-        slot.generation < slot.kept_below && self.kept[slot.layout as usize].count < self.keep
+        let layout = slot.list() as usize;
+        let list = self.kept.get(layout)?;
+        let may = slot.generation < u32::MAX && list.count < self.keep;
+        may.then_some(layout)
     }
 
     /// Keeps a set that is in no list, if it may be kept.
@@ -39,10 +43,9 @@ impl<T> SetTable<T> {
         ensures keeps { Changes (λ old new. new ≡ (if result then slice_set old place
             (used_for Use.Kept (slot_at old place)) else old)) self.old self.new }
     {
-        if !self.may_stay(place) {
+        let Some(layout) = self.list_of_freed(place) else {
             return false;
-        }
-        let layout = self.slots.at(place).layout as usize;
+        };
         self.link(Group::KeptOf(layout), place, Use::Kept);
         true
     }
@@ -84,27 +87,24 @@ impl<T> SetTable<T> {
         self.holds(name) && self.keep_at(name.handle().place as usize)
     }
 
-    /// Keeps the held sets of the first names, up to a name without one, or a set that may not be kept.
-    /// Returns how many it kept.
+    /// Keeps the held sets of `names`, all or none. If a name has no held set, or one that may not be kept, it
+    /// keeps none and returns `false`.
     #[inline(always)]
-    fn keep_first<N: SetName<T>>(&mut self, names: &[N]) -> usize
-        ensures few { result ≤ length names.now }
-        ensures once { result ≡ length names.now → AreHeldOnce self.old.number (slots_of self.old)
+    fn keep_each<N: SetName<T>>(&mut self, names: &[N]) -> bool
+        ensures once { IsTrue result → AreHeldOnce self.old.number (slots_of self.old)
             (N.handles_of names.now) × AllFit N.handle_of N.fit (slots_of self.old) names.now }
-        ensures back { result ≡ length names.now → TurnEach (N.handles_of names.now) (IsBack
-            (used_for Use.Going) (removed_of self.old) self.old.keep) (slots_of self.old)
-            (slots_of self.new) }
-        ensures can { (i : ℕ) → i < result
-            → CanBeHeld (slot_at (slots_of self.new) (place_at (N.handles_of names.now) i)) }
-        ensures undone { (back : List (Slot T)) → TurnEach (take result (N.handles_of names.now))
-            (Becomes (used_for Use.Held)) (slots_of self.new) back → back ≡ slots_of self.old }
+        ensures back { IsTrue result → TurnEach (N.handles_of names.now) (IsBack (used_for Use.Going)
+            (removed_of self.old) self.old.keep) (slots_of self.old) (slots_of self.new) }
+        ensures none { IsFalse result → slots_of self.new ≡ slots_of self.old }
         ensures stays { Stays self.old self.new }
     {
-        let mut kept = 0;
-        while kept < names.len() && self.keep_named(&names[kept]) {
-            kept += 1;
+        for index in 0..names.len() {
+            if !self.keep_named(&names[index]) {
+                self.put_back(names, index);
+                return false;
+            }
         }
-        kept
+        true
     }
 
     /// Keeps the sets of `names`, or lets them go. A call has taken them.
@@ -132,14 +132,10 @@ impl<T> SetTable<T> {
         ensures none { IsFalse result → slots_of self.new ≡ slots_of self.old }
         ensures stays { Stays self.old self.new }
     {
-        let kept = self.keep_first(names);
-        if kept == names.len() {
+        if self.keep_each(names) {
             return true;
         }
-        // Some may not be kept. None goes before all are found to be held, so that sets that go can be grouped.
-        if kept > 0 {
-            self.put_back(names, kept);
-        }
+        // None goes before all are found to be held, so that sets that go can be grouped.
         if !self.take_each(names) {
             return false;
         }

@@ -69,7 +69,7 @@ impl<T> SetTable<T> {
         let slot = self.slots.at(place);
         match slot.used() {
             Use::Kept => {
-                let group = Group::KeptOf(slot.layout as usize);
+                let group = Group::KeptOf(slot.layout() as usize);
                 self.unlink(group, Use::Kept, place);
             }
             Use::Going => self.unlink(Group::Going, Use::Going, place),

@@ -1,7 +1,7 @@
 //! Layouts that are added and removed, and sets that age.
 ghost use Rattle.std.specs.Prelude.{◌≡◌, ◌+◌, ◌<◌, ℕ, false, true, IfSome, IsOk, None, OnOk, length};
 
-use super::SetTable;
+use super::{MAX_LAYOUTS, SetTable};
 use crate::slot::Chain;
 use std::alloc::AllocError;
 
@@ -12,12 +12,15 @@ impl<T> SetTable<T> {
     ghost use Rattle.descriptor_table.specs.Tables.{layouts_of, removed_of, removed_with, settings_of};
     ghost use Rattle.descriptor_table.specs.Tables.{slots_of};
 
-    /// Reserves memory for one more layout.
+    /// Reserves memory for one more layout. It fails if there are 2^31.
     pub fn reserve_layout(&mut self) -> Result<(), AllocError>
         ensures room { OnOk result (HasListRoom self.new) }
         ensures fits { HasListRoom self.old → IsOk result }
         ensures only { OnlySettings (settings_of self.old) self.old self.new }
     {
+        if self.kept.len() >= MAX_LAYOUTS {
+            return Err(AllocError);
+        }
         self.kept.reserve(1)?;
         self.users.reserve()
     }

@@ -11,7 +11,7 @@ mod waiting;
 
 use crate::descriptor_table::handle::{SetHandle, SetName};
 use crate::descriptor_table::slot::{Chain, Use};
-use crate::descriptor_table::slot_list::SlotList;
+use crate::descriptor_table::slot_list::{AGED, SlotList};
 use crate::descriptor_table::users::LayoutUsers;
 use crate::kit::alloc::{AllocError, Global};
 use crate::kit::collections::VecDeque;
@@ -19,6 +19,9 @@ use crate::kit::vec::Vec;
 
 /// The max number of slots.
 const MAX_SLOTS: u64 = u32::MAX as u64 - 1;
+
+/// The max number of layouts.
+pub(crate) const MAX_LAYOUTS: usize = AGED as usize;
 
 /// How many groups of sets that go there are.
 pub(crate) const GROUPS: usize = 8;

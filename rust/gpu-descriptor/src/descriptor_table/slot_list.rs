@@ -6,11 +6,16 @@ use crate::descriptor_table::slot::{State, Use};
 use crate::kit::alloc::{AllocError, Global};
 use crate::kit::vec::Vec;
 
+/// What is added to the layout of a set that isn't kept once it is freed. No layout has such a number.
+pub(crate) const AGED: u32 = 1 << 31;
+
 /// A place for a set.
 pub struct Entry<T> {
     /// How many handles were given for this place.
     pub(crate) generation: u32,
-    pub(crate) layout: u32,
+
+    /// The layout, or `AGED` more if the set was there at the last cleanup.
+    pub(crate) list: u32,
 
     /// The next slot of this slot's list. A slot is in one list at a time, so a set is kept without an
     /// allocation.
@@ -22,10 +27,6 @@ pub struct Entry<T> {
 
     /// The group of the set: when it goes, it comes after another one of the group.
     pub(crate) group: u8,
-
-    /// The set is kept once it is freed only if its generation is below this: `u32::MAX`, since a kept set
-    /// needs a next one, or 0 if it was there at the last cleanup.
-    pub(crate) kept_below: u32,
     pub(crate) set: Option<T>,
 }
 
@@ -35,14 +36,28 @@ impl<T> Entry<T> {
     {
         Entry {
             generation: 0,
-            layout: 0,
+            list: AGED,
             next: 0,
             frame: 0,
             state: State::Taken,
             group: 0,
-            kept_below: 0,
             set: None,
         }
+    }
+
+    /// The layout of the set.
+    #[inline]
+    pub(crate) fn layout(&self) -> u32
+    {
+        self.list % AGED
+    }
+
+    /// The number of the list that keeps the set once it is freed, if there is such a list: that of its layout, or one
+    /// that no layout has.
+    #[inline]
+    pub(crate) fn list(&self) -> u32
+    {
+        self.list
     }
 
     /// What the set is in use for.
@@ -179,7 +194,8 @@ impl<T> SlotList<T> {
     #[inline]
     pub(crate) fn age(&mut self, place: usize)
     {
-        self.entries[place].kept_below = 0;
+        let entry = &mut self.entries[place];
+        entry.list = entry.list % AGED + AGED;
     }
 
     /// Takes the set out of a slot, leaves the slot vacant, and makes `next` the slot that follows in its list.
@@ -206,9 +222,8 @@ impl<T> SlotList<T> {
     {
         let entry = &mut self.entries[place];
         entry.generation = generation;
-        entry.layout = layout;
+        entry.list = layout;
         entry.group = group;
-        entry.kept_below = u32::MAX;
         match entry.set.replace(set) {
             None => {}
             Some(_) => unreachable!(),

@@ -8,22 +8,24 @@ use crate::descriptor_table::handle::SetName;
 use crate::descriptor_table::slot::Use;
 
 impl<T> SetTable<T> {
-    /// Whether a set that is freed may be kept.
+    /// The layout under which a set that is freed is kept, if it may be.
     #[inline]
-    fn may_stay(&self, place: usize) -> bool
+    fn list_of_freed(&self, place: usize) -> Option<usize>
     {
         let slot = self.slots.at(place);
-        slot.generation < slot.kept_below && self.kept[slot.layout as usize].count < self.keep
+        let layout = slot.list() as usize;
+        let list = self.kept.get(layout)?;
+        let may = slot.generation < u32::MAX && list.count < self.keep;
+        may.then_some(layout)
     }
 
     /// Keeps a set that is in no list, if it may be kept.
     #[inline(always)]
     fn keep_at(&mut self, place: usize) -> bool
     {
-        if !self.may_stay(place) {
+        let Some(layout) = self.list_of_freed(place) else {
             return false;
-        }
-        let layout = self.slots.at(place).layout as usize;
+        };
         self.link(Group::KeptOf(layout), place, Use::Kept);
         true
     }
@@ -52,16 +54,18 @@ impl<T> SetTable<T> {
         self.holds(name) && self.keep_at(name.handle().place as usize)
     }
 
-    /// Keeps the held sets of the first names, up to a name without one, or a set that may not be kept.
-    /// Returns how many it kept.
+    /// Keeps the held sets of `names`, all or none. If a name has no held set, or one that may not be kept, it
+    /// keeps none and returns `false`.
     #[inline(always)]
-    fn keep_first<N: SetName<T>>(&mut self, names: &[N]) -> usize
+    fn keep_each<N: SetName<T>>(&mut self, names: &[N]) -> bool
     {
-        let mut kept = 0;
-        while kept < names.len() && self.keep_named(&names[kept]) {
-            kept += 1;
+        for index in 0..names.len() {
+            if !self.keep_named(&names[index]) {
+                self.put_back(names, index);
+                return false;
+            }
         }
-        kept
+        true
     }
 
     /// Keeps the sets of `names`, or lets them go. A call has taken them.
@@ -77,14 +81,10 @@ impl<T> SetTable<T> {
     /// is in the list twice, it frees none and returns `false`.
     pub fn settle_held<N: SetName<T>>(&mut self, names: &[N]) -> bool
     {
-        let kept = self.keep_first(names);
-        if kept == names.len() {
+        if self.keep_each(names) {
             return true;
         }
-        // Some may not be kept. None goes before all are found to be held, so that sets that go can be grouped.
-        if kept > 0 {
-            self.put_back(names, kept);
-        }
+        // None goes before all are found to be held, so that sets that go can be grouped.
         if !self.take_each(names) {
             return false;
         }

@@ -68,7 +68,7 @@ impl<T> SetTable<T> {
     {
         let slot = self.slots.at(place);
         let next = slot.next;
-        self.users.leave(slot.layout as usize);
+        self.users.leave(slot.layout() as usize);
         self.slots.vacate(place, next)
     }
 
@@ -81,7 +81,7 @@ impl<T> SetTable<T> {
         if slot.generation == u32::MAX {
             return self.retire(place);
         }
-        self.users.leave(slot.layout as usize);
+        self.users.leave(slot.layout() as usize);
         let set = self.slots.vacate(place, self.vacant.first);
         self.vacant.push(place as u32);
         set

@@ -13,7 +13,7 @@ invariant_of-self-clause-sound g c =
     let s = c.args.self.now in
     subst (λ kept. AreSound s.slots (chains_in s.vacant s.going kept) (length kept) s.waiting.items s.waiting.cap s.keep s.newest) (sym c.push_reserved.ensures.items)
     (in_place (λ chains layouts. AreSound s.slots chains layouts s.waiting.items s.waiting.cap s.keep s.newest) _ _ _ _ (ap (λ l. s.vacant ∷ s.going ∷ l) (map-append shown s.kept.items _)) (length_push s.kept.items _)
-    (layout_sound s.slots s.slots (chains_of s) (layouts_of s) s.waiting.items s.waiting.cap s.keep s.newest s.sound))
+    (layout_sound s.slots s.slots (chains_of s) (layouts_of s) s.waiting.items s.waiting.cap s.keep s.newest s.sound c.requires.room.few))
 
 pub invariant_of-self-clause-counted : goal.invariant_of-self-clause-counted
 invariant_of-self-clause-counted g c = let s = c.args.self.now in in_place (AreCounted (slots_of s)) _ _ _ _ c.push_reserved.ensures.items c.add.ensures (added_counted s)

@@ -32,6 +32,9 @@ fill-requires-clause-empty g c = let s = c.args.self.now in search (rules, vacan
 pub fill-requires-clause-next : goal.fill-requires-clause-next
 fill-requires-clause-next g c = ap (λ (s : Slot g.row.T.Denot). s.generation + 1) c.at-slot.ensures.slot
 
+pub fill-requires-clause-layout : goal.fill-requires-clause-layout
+fill-requires-clause-layout g c = let numbers = c.args.self.now.sound.numbers in let within = c.requires.layout.within in omega arith
+
 pub join-requires-clause-some : goal.join-requires-clause-some
 join-requires-clause-some g c = there_user c.args.self.now c.args.layout c.requires.layout
 
@@ -51,7 +54,7 @@ pub invariant_of-self-clause-sound : goal.invariant_of-self-clause-sound
 invariant_of-self-clause-sound g c =
     let s = c.args.self.now in
     subst (λ vacant. AreSound c.fill.new.self (chains_in vacant s.going s.kept.items) (layouts_of s) c.enqueue.new.waiting.items (deque_capacity c.enqueue.new.waiting) s.keep c.enqueue.new.newest) (sym c.pop.ensures)
-    (left_sound s 0 c.requires.some s.vacant refl c.fill.new.self _ c.fill.ensures.writes.slots c.at-slot.ensures.next c.fill.ensures.nexts c.requires.live c.requires.layout.within (search rules) refl c.enqueue.ensures.capacity c.enqueue.ensures.queue)
+    (left_sound s 0 c.requires.some s.vacant refl c.fill.new.self _ c.fill.ensures.writes.slots c.at-slot.ensures.next c.fill.ensures.nexts c.requires.live c.requires.layout.within refl c.enqueue.ensures.capacity c.enqueue.ensures.queue)
 
 pub invariant_of-self-clause-counted : goal.invariant_of-self-clause-counted
 invariant_of-self-clause-counted g c =

@@ -68,7 +68,7 @@ invariant_of-self-clause-sound g c =
     let full = (kept_is (c.args.layout + 2) (slot_at (slots_of s) c.index_mut-list.result.now.first) (omega arith) p.1).1 in
     list_sound s c.args.layout is.1 c.pop.new.self (few g a c.pop.new.self (ap (λ (c : Chain). c.count) c.pop.ensures)) is.0 c.renew-generation.new.self c.enqueue.new.waiting.items (deque_capacity c.enqueue.new.waiting) c.enqueue.new.newest
     (subst (λ x. AreSound c.renew-generation.new.self (set (chains_of s) (c.args.layout + 2) x) (layouts_of s) c.enqueue.new.waiting.items (deque_capacity c.enqueue.new.waiting) s.keep c.enqueue.new.newest) (sym c.pop.ensures)
-    (left_sound s (c.args.layout + 2) c.requires.some c.index_mut-list.result.now (was g a) c.renew-generation.new.self _ c.renew-generation.ensures.writes.slots c.at.ensures.next c.renew-generation.ensures.nexts c.requires.live known.there known.kept_below full c.enqueue.ensures.capacity c.enqueue.ensures.queue))
+    (left_sound s (c.args.layout + 2) c.requires.some c.index_mut-list.result.now (was g a) c.renew-generation.new.self _ c.renew-generation.ensures.writes.slots c.at.ensures.next c.renew-generation.ensures.nexts c.requires.live known.there full c.enqueue.ensures.capacity c.enqueue.ensures.queue))
 
 pub invariant_of-self-clause-counted : goal.invariant_of-self-clause-counted
 invariant_of-self-clause-counted g c =

@@ -21,7 +21,7 @@ invariant_of-self-clause-sound g c =
     let s = c.args.self.now in
     let new = used_for c.args.used (slot_at (slots_of s) c.args.place) in
     subst (λ going. AreSound c.link.new.self (chains_in s.vacant going s.kept.items) (layouts_of s) s.waiting.items s.waiting.cap s.keep s.newest) (sym c.push.ensures)
-    (front_sound s 1 c.args.place new c.requires.within c.requires.idle (ap (λ g. is_of g new) (sym c.in-Going.is) ∙ c.requires.goes) c.link.new.self c.link.ensures.writes.slots (omega arith) refl refl (λ two. absurd (omega arith)) c.link.ensures.nexts)
+    (front_sound s 1 c.args.place new c.requires.within c.requires.idle (ap (λ g. is_of g new) (sym c.in-Going.is) ∙ c.requires.goes) c.link.new.self c.link.ensures.writes.slots (omega arith) refl (λ two. absurd (omega arith)) c.link.ensures.nexts)
 
 -- the layout of the set
 layout_is : (g : _) (c : After-index_mut-list g) → (slot_at (slots_of c.args.self.now) c.args.place).layout ≡ c.in-KeptOf.layout
@@ -71,7 +71,7 @@ invariant_of-self-in-KeptOf-clause-sound g c =
     let head = was g a in
     list_sound s n is.1 c.push-in-KeptOf.new.self (now_few g (goal.at.invariant_of-self-in-KeptOf-clause-sound g c).After-push-in-KeptOf (few g a)) is.0 c.link-in-KeptOf.new.self s.waiting.items s.waiting.cap s.newest
     (subst (λ x. AreSound c.link-in-KeptOf.new.self (set (chains_of s) (n + 2) x) (layouts_of s) s.waiting.items s.waiting.cap s.keep s.newest) (ap (λ (w : Chain). let r : Chain = record { first = c.args.place; count = w.count + 1 } in r) head ∙ sym c.push-in-KeptOf.ensures)
-    (front_sound s (n + 2) c.args.place new c.requires.within c.requires.idle goes c.link-in-KeptOf.new.self c.link-in-KeptOf.ensures.writes.slots (omega (arith, length-map s.kept.items shown, is.0)) refl refl (λ two. omega (arith, ap (λ (c : Chain). c.count) (list_is s n is.1), ap (λ g. count (is_of g) (slots_of s)) c.in-KeptOf.is, counts, less)) (c.link-in-KeptOf.ensures.nexts ∙ ap (λ (w : Chain). set (nexts_in s.slots) c.args.place w.first) (sym head))))
+    (front_sound s (n + 2) c.args.place new c.requires.within c.requires.idle goes c.link-in-KeptOf.new.self c.link-in-KeptOf.ensures.writes.slots (omega (arith, length-map s.kept.items shown, is.0)) refl (λ two. omega (arith, ap (λ (c : Chain). c.count) (list_is s n is.1), ap (λ g. count (is_of g) (slots_of s)) c.in-KeptOf.is, counts, less)) (c.link-in-KeptOf.ensures.nexts ∙ ap (λ (w : Chain). set (nexts_in s.slots) c.args.place w.first) (sym head))))
 
 pub invariant_of-self-in-KeptOf-clause-counted : goal.invariant_of-self-in-KeptOf-clause-counted
 invariant_of-self-in-KeptOf-clause-counted g c =

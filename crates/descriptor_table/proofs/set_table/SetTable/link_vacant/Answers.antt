@@ -25,7 +25,7 @@ invariant_of-self-clause-sound g c =
     let d = (goal.at.invariant_of-self-clause-sound g c).After-link in
     let s = c.args.self.now in
     subst (λ vacant. AreSound c.link.new.self (chains_in vacant s.going s.kept.items) (layouts_of s) s.waiting.items s.waiting.cap s.keep s.newest) (sym c.push.ensures)
-    (front_sound s 0 c.args.place (used_for Vacant (slot_at (slots_of s) c.args.place)) c.requires.taken.within (idle g d) (goes g d) c.link.new.self c.link.ensures.writes.slots (omega arith) refl refl (λ two. absurd (omega arith)) c.link.ensures.nexts)
+    (front_sound s 0 c.args.place (used_for Vacant (slot_at (slots_of s) c.args.place)) c.requires.taken.within (idle g d) (goes g d) c.link.new.self c.link.ensures.writes.slots (omega arith) refl (λ two. absurd (omega arith)) c.link.ensures.nexts)
 
 pub invariant_of-self-clause-counted : goal.invariant_of-self-clause-counted
 invariant_of-self-clause-counted g c = slot_counted c.args.self.now (slots_in c.link.new.self) c.args.place _ c.link.ensures.writes.slots c.requires.taken.within refl refl

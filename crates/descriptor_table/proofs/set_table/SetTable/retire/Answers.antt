@@ -1,5 +1,5 @@
 use Rattle.std.proofs.lemmas.Grind.{common_steps}
-use Rattle.std.proofs.Common.{◌<◌, refl, subst, sym, ap, arith}
+use Rattle.std.proofs.Common.{◌∙◌, ◌<◌, refl, subst, sym, ap, arith}
 use Rattle.descriptor_table.specs.Slots.{AreCounted, Slot, slot_at, slots_in}
 use Rattle.descriptor_table.specs.Tables.{chains_of, layouts_of, slots_of, vacated}
 use Rattle.descriptor_table.specs.Users.{users_in}
@@ -19,6 +19,6 @@ invariant_of-self-clause-sound g c =
 pub invariant_of-self-clause-counted : goal.invariant_of-self-clause-counted
 invariant_of-self-clause-counted g c =
     let s = c.args.self.now in
-    let layout = ap (λ (s : Slot g.row.T.Denot). s.layout) (sym c.at-slot.ensures.slot) in
+    let layout = ap (λ (s : Slot g.row.T.Denot). s.layout) (sym c.at-slot.ensures.slot) ∙ sym c.layout.ensures in
     subst (AreCounted (slots_in c.vacate.new.self) s.kept.items) (sym c.leave.ensures)
-    (left_counted (slots_of s) (slots_in c.vacate.new.self) s.kept.items s.kept.items (users_in s.users) s.counted c.args.place _ c.requires.taken.taken.within c.vacate.ensures.writes.slots refl (λ n. refl) c.at-slot.result.now.layout layout (subst (λ n. n < layouts_of s) layout (s.sound.known c.args.place c.requires.taken.taken.within).there) c.requires.taken.full refl)
+    (left_counted (slots_of s) (slots_in c.vacate.new.self) s.kept.items s.kept.items (users_in s.users) s.counted c.args.place _ c.requires.taken.taken.within c.vacate.ensures.writes.slots refl (λ n. refl) c.layout.result layout (subst (λ n. n < layouts_of s) layout (s.sound.known c.args.place c.requires.taken.taken.within).there) c.requires.taken.full refl)

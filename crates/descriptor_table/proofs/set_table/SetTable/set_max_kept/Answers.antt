@@ -10,6 +10,7 @@ invariant_of-self-clause-sound g c =
     let was = s.sound in
     record {
       size = was.size;
+      numbers = was.numbers;
       fits = was.fits;
       linked = was.linked;
       queue = was.queue;

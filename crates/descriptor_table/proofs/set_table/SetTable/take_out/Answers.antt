@@ -1,5 +1,5 @@
 use Rattle.std.proofs.lemmas.Grind.{common_steps}
-use Rattle.std.proofs.Common.{◌≡◌, ◌<◌, refl, subst, sym, ap, true, arith}
+use Rattle.std.proofs.Common.{◌∙◌, ◌≡◌, ◌<◌, refl, subst, sym, ap, true, arith}
 use Rattle.descriptor_table.specs.Slots.{AreCounted, AreSound, IsNowhere, Slot, chains_in, is_in, slot_at, slots_in}
 use Rattle.descriptor_table.specs.Tables.{layouts_of, slots_of, vacated}
 use Rattle.descriptor_table.specs.Users.{users_in}
@@ -29,11 +29,11 @@ invariant_of-self-2-clause-sound g c =
     let d = (goal.at.invariant_of-self-2-clause-sound g c).After-leave in
     let s = c.args.self.now in
     subst (λ vacant. AreSound c.vacate-set.new.self (chains_in vacant s.going s.kept.items) (layouts_of s) s.waiting.items s.waiting.cap s.keep s.newest) (sym c.push.ensures)
-    (front_sound s 0 c.args.place (vacated (slot_at (slots_of s) c.args.place)) c.requires.taken.taken.within (idle g d) (goes g d) c.vacate-set.new.self c.vacate-set.ensures.writes.slots (omega arith) refl refl (λ two. absurd (omega arith)) c.vacate-set.ensures.nexts)
+    (front_sound s 0 c.args.place (vacated (slot_at (slots_of s) c.args.place)) c.requires.taken.taken.within (idle g d) (goes g d) c.vacate-set.new.self c.vacate-set.ensures.writes.slots (omega arith) refl (λ two. absurd (omega arith)) c.vacate-set.ensures.nexts)
 
 pub invariant_of-self-2-clause-counted : goal.invariant_of-self-2-clause-counted
 invariant_of-self-2-clause-counted g c =
     let s = c.args.self.now in
-    let layout = ap (λ (s : Slot g.row.T.Denot). s.layout) (sym c.at-slot.ensures.slot) in
+    let layout = ap (λ (s : Slot g.row.T.Denot). s.layout) (sym c.at-slot.ensures.slot) ∙ sym c.layout.ensures in
     subst (AreCounted (slots_in c.vacate-set.new.self) s.kept.items) (sym c.leave.ensures)
-    (left_counted (slots_of s) (slots_in c.vacate-set.new.self) s.kept.items s.kept.items (users_in s.users) s.counted c.args.place _ c.requires.taken.taken.within c.vacate-set.ensures.writes.slots refl (λ n. refl) c.at-slot.result.now.layout layout (subst (λ n. n < layouts_of s) layout (s.sound.known c.args.place c.requires.taken.taken.within).there) c.requires.taken.full refl)
+    (left_counted (slots_of s) (slots_in c.vacate-set.new.self) s.kept.items s.kept.items (users_in s.users) s.counted c.args.place _ c.requires.taken.taken.within c.vacate-set.ensures.writes.slots refl (λ n. refl) c.layout.result layout (subst (λ n. n < layouts_of s) layout (s.sound.known c.args.place c.requires.taken.taken.within).there) c.requires.taken.full refl)

@@ -17,7 +17,7 @@ invariant_of-self-clause-sound g c =
     let was = slot_at (slots_in s.slots) c.args.place in
     let new = used_for (Waits c.args.frame) was in
     let within = c.requires.taken.within in
-    let here = listed s.slots s.slots (chains_of s) (layouts_of s) s.waiting.items s.waiting.cap s.keep s.newest s.sound c.args.place new within refl refl (unheld (Waits c.args.frame) refl) in
+    let here = listed s.slots s.slots (chains_of s) (layouts_of s) s.waiting.items s.waiting.cap s.keep s.newest s.sound c.args.place new within refl (unheld (Waits c.args.frame) refl) in
     grind (arith, common_steps, queued s.slots c.set_use.new.self (chains_of s) (layouts_of s) s.waiting.items s.waiting.cap s.keep s.newest s.sound c.args.place new c.set_use.ensures.writes.slots c.enqueue.new.waiting.items c.enqueue.new.newest within here, taken_no_list was, waits_no_list new)
 
 pub invariant_of-self-clause-counted : goal.invariant_of-self-clause-counted

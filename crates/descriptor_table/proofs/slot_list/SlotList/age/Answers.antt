@@ -1,13 +1,21 @@
-use Rattle.std.proofs.Common.{refl}
+use Rattle.std.proofs.Math.Nat.{add-mod_right, mod-eq_of_lt}
+use Rattle.std.proofs.Common.{◌+◌, ◌%◌, ◌∙◌, refl, arith}
+use Rattle.std.proofs.lemmas.Bool.{le-leb}
+use Rattle.std.proofs.lemmas.Nat.{mod_below}
+use Rattle.descriptor_table.specs.Slots.{slot_of}
 use Rattle.descriptor_table.specs.Tables.{aged}
 use Rattle.descriptor_table.proofs.Entries.{next_stays, written}
 use Rattle.descriptor_table.proofs.slot_list.SlotList.age.Goals as goal
 
 pub returns-clause-writes : goal.returns-clause-writes
-returns-clause-writes g c = record {
-  slots = written c.args.self.now.entries.items c.args.place c.index_mut.result.now c.requires c.index_mut.ensures.value _ (aged) refl;
-  space = refl;
-}
+returns-clause-writes g c =
+    let e = c.index_mut-entry.result.now in
+    let layout = add-mod_right (e.list % 2147483648) 2147483648 ∙ mod-eq_of_lt (mod_below e.list 2147483648 (omega arith)) in
+    let old = le-leb 2147483648 (e.list % 2147483648 + 2147483648) (omega arith) in
+    record {
+      slots = written c.args.self.now.entries.items c.args.place e c.requires c.index_mut-entry.ensures.value _ aged (λ i. record (slot_of e) { layout = layout i; is_aged = old i });
+      space = refl;
+    }
 
 pub returns-clause-nexts : goal.returns-clause-nexts
-returns-clause-nexts g c = next_stays c.args.self.now.entries.items c.args.place c.index_mut.result.now c.requires c.index_mut.ensures.value _ refl
+returns-clause-nexts g c = next_stays c.args.self.now.entries.items c.args.place c.index_mut-entry.result.now c.requires c.index_mut-entry.ensures.value _ refl

@@ -1,3 +1,5 @@
+use Rattle.std.proofs.Math.Nat.{mod-eq_of_lt}
+use Rattle.std.proofs.lemmas.Bool.{lt-leb}
 use Rattle.std.proofs.Common.{◌≡◌, ◌+◌, ◌∙◌, refl, sym, ap}
 use Rattle.descriptor_table.specs.Slots.{Slot, filled}
 use Rattle.descriptor_table.specs.Tables.{renewed}
@@ -7,9 +9,11 @@ use Rattle.descriptor_table.proofs.slot_list.SlotList.fill.Goals as goal
 pub returns-clause-writes : goal.returns-clause-writes
 returns-clause-writes g c =
     let e = c.index_mut-entry.result.now in
+    let small = mod-eq_of_lt c.requires.layout in
+    let young = lt-leb 2147483648 c.args.layout c.requires.layout in
     let next : c.args.generation ≡ e.generation + 1 = c.requires.next ∙ ap (λ (s : Slot g.row.T.Denot). s.generation + 1) (sym (slot_is c.args.self.now.entries.items c.args.place e c.requires.within c.index_mut-entry.ensures.value)) in
     record {
-      slots = written c.args.self.now.entries.items c.args.place e c.requires.within c.index_mut-entry.ensures.value c.set_use.new.self (λ slot. renewed c.args.used (filled c.args.layout c.args.set slot)) (c.set_use.ensures.slot ∙ λ i. record { generation = next i; layout = c.args.layout; used = c.args.used; kept_below = 4294967295; set = c.replace.ensures.after i });
+      slots = written c.args.self.now.entries.items c.args.place e c.requires.within c.index_mut-entry.ensures.value c.set_use.new.self (λ slot. renewed c.args.used (filled c.args.layout c.args.set slot)) (c.set_use.ensures.slot ∙ λ i. record { generation = next i; layout = small i; used = c.args.used; is_aged = young i; set = c.replace.ensures.after i });
       space = refl;
     }
 
