@@ -78,7 +78,7 @@ module _ {L P S D : Type 0} {d : Ghosts D L P S} {layouts : List (Slot (SetLayou
 
 -- no layout was removed past the last one
 pub past_there : {T : Type 0} (t : SetTable T) (n : ℕ) → layouts_of t ≤ n → removed_of t n ≡ false
-past_there t n past = ap is_removed (get_or_past t.kept.items n (record { first = 0; count = 0 }) past)
+past_there t n past = ap is_removed (get_or_past t.lists.kept.items n (record { first = 0; count = 0 }) past)
 
 -- the number that a layout took isn't one of a removed layout any more, and others stay
 pub without_here : (layout n : ℕ) (removed : ℕ → Bool) → n ≡ layout → removed_without layout removed n ≡ false

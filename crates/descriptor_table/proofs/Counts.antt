@@ -1,11 +1,14 @@
 -- How many slots pass a test, when one of them changes, and that a list counts them: for the counts that `SetTable` returns.
 use Rattle.std.proofs.lemmas.Grind.{common_steps}
-use Rattle.std.proofs.Common.{◌≡◌, ℕ, zero, suc, ◌+◌, ◌<◌, ◌≤◌, Bool, true, false, inl, inr, if◌then◌else◌, List, [], ◌∷◌, length, set, refl, ap, ◌∙◌, arith, rules, sym}
+use Rattle.std.proofs.Common.{◌≡◌, ◌≢◌, ℕ, zero, suc, ◌+◌, ◌<◌, ◌≤◌, Bool, true, false, inl, inr, if◌then◌else◌, List, [], ◌∷◌, length, set, refl, ap, ◌∙◌, arith, rules, sym}
+use Rattle.descriptor_table.specs.Giving.{is_of, list_of}
+use Rattle.descriptor_table.specs.Lists.{HasList}
 use Rattle.descriptor_table.specs.Places.{walk}
-use Rattle.descriptor_table.specs.Slots.{AreLinked, Lists, chain_at, count, is_in, is_kept_of, nexts_in, no_slot, shown, slot_at}
+use Rattle.descriptor_table.specs.Slots.{AreLinked, Lists, chain_at, count, is_in, is_kept_of, nexts_in, no_slot, slot_at}
 use Rattle.descriptor_table.specs.Tables.{chains_of, removed_of, slots_of}
+use Rattle.descriptor_table.specs.declared.giving.Group.{Group}
 use Rattle.descriptor_table.specs.declared.set_table.SetTable.{SetTable}
-use Rattle.descriptor_table.proofs.Entries.{chain_was, shown_same}
+use Rattle.descriptor_table.proofs.Relisted.{group_there, list_is}
 use Rattle.descriptor_table.specs.Tables.{}
 use Rattle.descriptor_table.specs.Slots.{Slot}
 use Rattle.descriptor_table.specs.declared.slot.Chain.{Chain}
@@ -84,15 +87,24 @@ module _ {T : Type 0} where
 
 -- how many slots a table's lists have
 module _ {T : Type 0} (t : SetTable T) where
-  pub vacant_count : t.vacant.count ≡ count (is_in 0) (slots_of t)
-  vacant_count = chain_count (slots_of t) (nexts_in t.slots) (chains_of t) t.sound.linked 0
+  pub chain_counts : (k : ℕ) → (chain_at (chains_of t) k).count ≡ count (is_in k) (slots_of t)
+  chain_counts = chain_count (slots_of t) (nexts_in t.slots) (chains_of t) t.sound.linked
 
-  pub going_count : t.going.count ≡ count (is_in 1) (slots_of t)
-  going_count = chain_count (slots_of t) (nexts_in t.slots) (chains_of t) t.sound.linked 1
+  pub vacant_count : t.lists.vacant.count ≡ count (is_in 0) (slots_of t)
+  vacant_count = chain_counts 0
 
-  pub kept_counts : (layout : ℕ) → (shown (chain_at t.kept.items layout)).count ≡ count (is_kept_of layout) (slots_of t)
-  kept_counts layout = ap (λ (c : Chain). c.count) (sym (chain_was t.vacant t.going t.kept.items layout)) ∙ chain_count (slots_of t) (nexts_in t.slots) (chains_of t) t.sound.linked (layout + 2)
+  -- fewer than the count that marks the list of a removed layout
+  pub chain_short : (k : ℕ) → (chain_at (chains_of t) k).count < 4294967295
+  chain_short k = omega (arith, chain_counts k, count_few (is_in k) (slots_of t), t.sound.size)
+
+  -- a list with a count has slots
+  pub some_of : (k : ℕ) (c : Chain) → c ≡ chain_at (chains_of t) k → c.count ≢ 0 → 0 < count (is_in k) (slots_of t)
+  some_of k c is some = omega (arith, ap (λ (c : Chain). c.count) is, chain_counts k)
 
   -- of a layout that is there
-  pub there_counts : (layout : ℕ) → removed_of t layout ≡ false → (chain_at t.kept.items layout).count ≡ count (is_kept_of layout) (slots_of t)
-  there_counts layout there = ap (λ (c : Chain). c.count) (sym (shown_same (chain_at t.kept.items layout) there)) ∙ kept_counts layout
+  pub there_counts : (layout : ℕ) → removed_of t layout ≡ false → (chain_at t.lists.kept.items layout).count ≡ count (is_kept_of layout) (slots_of t)
+  there_counts layout there = ap (λ (c : Chain). c.count) (sym (list_is t.lists layout there)) ∙ chain_counts (layout + 2)
+
+  -- a group that has a set has a list
+  pub group_has : (group : Group) → 0 < count (is_of group) (slots_of t) → HasList group t.lists
+  group_has group some = group_there t.lists group (let is = chain_counts (list_of group) in omega arith)

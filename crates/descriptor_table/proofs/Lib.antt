@@ -12,6 +12,7 @@ pub mod Named
 pub mod Names
 pub mod Naming
 pub mod Numbers
+pub mod Relisted
 pub mod Renewing
 pub mod Sound
 pub mod Totals

@@ -1,17 +1,19 @@
 -- The users of layouts: a number is free once, so the free ones have room; and users are the sets that there are, when a slot changes.
 use Rattle.std.proofs.lemmas.Grind.{common_steps}
-use Rattle.std.proofs.Common.{◌≡◌, ◌≢◌, ℕ, zero, suc, ◌+◌, ◌-◌, ◌<◌, ◌≤◌, true, false, List, [], ◌∷◌, ◌++◌, is_some, inl, inr, refl, ◌∙◌, length, set, sym, ap, arith, eq-eqb, ne_eqb, ◌&&◌, ◌==◌, if◌then◌else◌}
+use Rattle.std.proofs.Common.{◌≡◌, ◌≢◌, ℕ, zero, suc, ◌+◌, ◌-◌, ◌<◌, ◌≤◌, Bool, true, false, List, [], ◌∷◌, ◌++◌, is_some, inl, inr, refl, ◌∙◌, length, set, sym, ap, arith, eq-eqb, ne_eqb, ◌&&◌, ◌==◌, if◌then◌else◌}
 use Rattle.std.proofs.lemmas.Bool.{and_right}
 use Rattle.std.proofs.lemmas.List.{get_or-set_other, get_or-set_same, get_or_past, get_or_append_left, get_or_push, length-set, length_push}
 use Rattle.descriptor_table.specs.Places.{AreFree, times, users_at}
-use Rattle.descriptor_table.specs.Slots.{AreCounted, Slot, no_slot, count, is_removed, is_set_of, removed_by, slot_at}
-use Rattle.descriptor_table.specs.Tables.{HasLayout, layouts_of, removed_of, slots_of}
+use Rattle.descriptor_table.specs.Lists.{Relisted, layouts_in, removed_in}
+use Rattle.descriptor_table.specs.Slots.{AreCounted, Slot, no_slot, count, is_removed, is_set_of, slot_at}
+use Rattle.descriptor_table.specs.Tables.{HasLayout, layouts_of, removed_of, removed_with, removed_without, slots_of}
 use Rattle.descriptor_table.specs.Users.{users_in}
+use Rattle.descriptor_table.specs.declared.lists.Lists.{Lists}
 use Rattle.descriptor_table.specs.declared.set_table.SetTable.{SetTable}
 use Rattle.descriptor_table.specs.declared.slot.Chain.{Chain}
 use Rattle.descriptor_table.proofs.Counting.{below_or, same_or, times_here, times_there}
-use Rattle.descriptor_table.proofs.Entries.{removed_stays}
-use Rattle.descriptor_table.proofs.Growing.{chain_grown, count_grown}
+use Rattle.descriptor_table.proofs.Entries.{in_place}
+use Rattle.descriptor_table.proofs.Growing.{count_grown}
 use Rattle.descriptor_table.proofs.Counts.{bit, count_less, count_set, none_count, same_count, some_count}
 
 -- how many places of a list are below this one
@@ -90,40 +92,33 @@ module _ (all free counts : List ℕ) (n : ℕ) (is : all ≡ free ++ n ∷ []) 
   pub free_less : AreFree free (set counts n 1)
   free_less p = grind (arith, common_steps, h p, h n, last_within, same_or p n, get_or-set_same, get_or-set_other, times_all p, times_here n free, times_there)
 
-module _ {T : Type 0} (slots slots' : List (Slot T)) (kept kept' : List Chain) (users : List ℕ) (h : AreCounted slots kept users) (p : ℕ) (s : Slot T) (within : p < length slots) (is : slots' ≡ set slots p s) (long : length kept' ≡ length kept) (removed : (n : ℕ) → removed_by kept' n ≡ removed_by kept n) where
-  -- a slot has a set of its layout as before
-  pub still_counted : s.layout ≡ (slot_at slots p).layout → is_some s.set ≡ is_some (slot_at slots p).set → AreCounted slots' kept' users
-  still_counted layout full = record {
-    long = h.long ∙ sym long;
-    each = λ n lt. grind (arith, common_steps, h.each n, removed n, same_count (is_set_of n) slots p s within);
-  }
-
+module _ {T : Type 0} (slots slots' : List (Slot T)) (layouts : ℕ) (removed : ℕ → Bool) (users : List ℕ) (h : AreCounted slots layouts removed users) (p : ℕ) (s : Slot T) (within : p < length slots) (is : slots' ≡ set slots p s) where
   -- a slot got a set
-  pub joined_counted : (layout : ℕ) → s.layout ≡ layout → layout < length kept → is_some (slot_at slots p).set ≡ false → is_some s.set ≡ true → AreCounted slots' kept' (set users layout (users_at users layout + 1))
+  pub joined_counted : (layout : ℕ) → s.layout ≡ layout → layout < layouts → is_some (slot_at slots p).set ≡ false → is_some s.set ≡ true → AreCounted slots' layouts removed (set users layout (users_at users layout + 1))
   joined_counted layout at there was now = record {
-    long = length-set users layout _ ∙ h.long ∙ sym long;
-    each = λ n lt. grind (arith, common_steps, h.each n, removed n, count_set (is_set_of n) slots p s within, same_or n layout, get_or-set_same, get_or-set_other, bit, h.long);
+    long = length-set users layout _ ∙ h.long;
+    each = λ n lt. grind (arith, common_steps, h.each n, count_set (is_set_of n) slots p s within, same_or n layout, get_or-set_same, get_or-set_other, bit, h.long);
   }
 
   -- and lost it
-  pub left_counted : (layout : ℕ) → (slot_at slots p).layout ≡ layout → layout < length kept → is_some (slot_at slots p).set ≡ true → is_some s.set ≡ false → AreCounted slots' kept' (set users layout (users_at users layout - 1))
+  pub left_counted : (layout : ℕ) → (slot_at slots p).layout ≡ layout → layout < layouts → is_some (slot_at slots p).set ≡ true → is_some s.set ≡ false → AreCounted slots' layouts removed (set users layout (users_at users layout - 1))
   left_counted layout at there was now = record {
-    long = length-set users layout _ ∙ h.long ∙ sym long;
-    each = λ n lt. grind (arith, common_steps, h.each n, removed n, count_set (is_set_of n) slots p s within, same_or n layout, get_or-set_same, get_or-set_other, bit, h.long);
+    long = length-set users layout _ ∙ h.long;
+    each = λ n lt. grind (arith, common_steps, h.each n, count_set (is_set_of n) slots p s within, same_or n layout, get_or-set_same, get_or-set_other, bit, h.long);
   }
 
--- the same of a table: a slot changed, but not its set
+-- a slot of a table changed, but not its set
 module _ {T : Type 0} (t : SetTable T) (slots : List (Slot T)) (p : ℕ) (s : Slot T) (is : slots ≡ set (slots_of t) p s) (within : p < length (slots_of t)) (same : s.layout ≡ (slot_at (slots_of t) p).layout) (full : is_some s.set ≡ is_some (slot_at (slots_of t) p).set) where
-  pub slot_counted : AreCounted slots t.kept.items (users_in t.users)
-  slot_counted = still_counted (slots_of t) slots t.kept.items t.kept.items (users_in t.users) t.counted p s within is refl (λ n. refl) same full
+  pub slot_counted : AreCounted slots (layouts_of t) (removed_of t) (users_in t.users)
+  slot_counted = record { long = t.counted.long; each = λ n lt. grind (arith, common_steps, t.counted.each n, same_count (is_set_of n) (slots_of t) p s within) }
 
-  -- and a list of kept sets
-  pub list_counted : (layout : ℕ) (c : Chain) → layout < layouts_of t → is_removed c ≡ removed_of t layout → AreCounted slots (set t.kept.items layout c) (users_in t.users)
-  list_counted layout c there removed = still_counted (slots_of t) slots t.kept.items (set t.kept.items layout c) (users_in t.users) t.counted p s within is (length-set t.kept.items layout c) (removed_stays t.kept.items layout c there removed) same full
+  -- and a list
+  pub list_counted : (k : ℕ) (c : Chain) (new : Lists) → Relisted k c t.lists new → AreCounted slots (layouts_in new) (removed_in new) (users_in t.users)
+  list_counted k c new r = in_place (λ layouts removed. AreCounted slots layouts removed (users_in t.users)) _ _ _ _ r.layouts r.removed slot_counted
 
 -- the layout of a set has users
-pub set_user : {T : Type 0} (slots : List (Slot T)) (kept : List Chain) (users : List ℕ) → AreCounted slots kept users → (p : ℕ) → is_some (slot_at slots p).set ≡ true → (slot_at slots p).layout < length kept → users_at users (slot_at slots p).layout ≢ 0
-set_user slots kept users h p full there = let n = (slot_at slots p).layout in omega (arith, h.each n there, some_count (is_set_of n) slots p refl (ap (λ b. b && (n == n)) full ∙ eq-eqb n n refl))
+pub set_user : {T : Type 0} (t : SetTable T) (p : ℕ) → is_some (slot_at (slots_of t) p).set ≡ true → (slot_at (slots_of t) p).layout < layouts_of t → users_at (users_in t.users) (slot_at (slots_of t) p).layout ≢ 0
+set_user t p full there = let n = (slot_at (slots_of t) p).layout in omega (arith, t.counted.each n there, some_count (is_set_of n) (slots_of t) p refl (ap (λ b. b && (n == n)) full ∙ eq-eqb n n refl))
 
 -- a layout that is there has users, and not so many that a set that comes to a slot is one too many
 module _ {T : Type 0} (t : SetTable T) (layout : ℕ) (has : HasLayout layout t) where
@@ -136,31 +131,31 @@ module _ {T : Type 0} (t : SetTable T) (layout : ℕ) (has : HasLayout layout t)
   pub few_users : (p : ℕ) → p < length (slots_of t) → is_some (slot_at (slots_of t) p).set ≡ false → users_at (users_in t.users) layout < 4294967295
   few_users p within none = omega (arith, users_are, t.sound.size, count_less (is_set_of layout) (slots_of t) p within (ap (λ b. b && ((slot_at (slots_of t) p).layout == layout)) none))
 
--- a layout was removed
-pub removed_counted : {T : Type 0} (t : SetTable T) (layout : ℕ) (c : Chain) → HasLayout layout t → is_removed c ≡ true → AreCounted (slots_of t) (set t.kept.items layout c) (set (users_in t.users) layout (users_at (users_in t.users) layout - 1))
-removed_counted t layout c has removed = record {
-  long = length-set (users_in t.users) layout _ ∙ t.counted.long ∙ sym (length-set t.kept.items layout c);
-  each = λ n lt. grind (arith, common_steps, t.counted.each n, users_are t layout has, same_or n layout, get_or-set_same, get_or-set_other, length-set, t.counted.long);
-}
+  -- it was removed
+  pub removed_counted : AreCounted (slots_of t) (layouts_of t) (removed_with layout (removed_of t)) (set (users_in t.users) layout (users_at (users_in t.users) layout - 1))
+  removed_counted = record {
+    long = length-set (users_in t.users) layout _ ∙ t.counted.long;
+    each = λ n lt. grind (arith, common_steps, t.counted.each n, users_are, same_or n layout, get_or-set_same, get_or-set_other, t.counted.long);
+  }
 
 -- a number without users has no set, and its layout was removed; it has another one
 module _ {T : Type 0} (t : SetTable T) (layout : ℕ) (within : layout < length (users_in t.users)) (free : users_at (users_in t.users) layout ≡ 0) where
   pub free_is : (layout < layouts_of t) × (removed_of t layout ≡ true) × (count (is_set_of layout) (slots_of t) ≡ 0)
   free_is = grind (arith, common_steps, t.counted.long, t.counted.each layout)
 
-  pub renewed_counted : (c : Chain) → is_removed c ≡ false → AreCounted (slots_of t) (set t.kept.items layout c) (set (users_in t.users) layout 1)
-  renewed_counted c there = record {
-    long = length-set (users_in t.users) layout _ ∙ t.counted.long ∙ sym (length-set t.kept.items layout c);
-    each = λ n lt. grind (arith, common_steps, t.counted.each n, free_is, same_or n layout, get_or-set_same, get_or-set_other, length-set, t.counted.long);
+  pub renewed_counted : AreCounted (slots_of t) (layouts_of t) (removed_without layout (removed_of t)) (set (users_in t.users) layout 1)
+  renewed_counted = record {
+    long = length-set (users_in t.users) layout _ ∙ t.counted.long;
+    each = λ n lt. grind (arith, common_steps, t.counted.each n, free_is, same_or n layout, get_or-set_same, get_or-set_other, t.counted.long);
   }
 
 -- one layout more, of which there is no set
-pub added_counted : {T : Type 0} (t : SetTable T) → AreCounted (slots_of t) (t.kept.items ++ record { first = 0; count = 0 } ∷ []) (users_in t.users ++ 1 ∷ [])
+pub added_counted : {T : Type 0} (t : SetTable T) → AreCounted (slots_of t) (layouts_of t + 1) (removed_of t) (users_in t.users ++ 1 ∷ [])
 added_counted {T} t = record {
-  long = length_push (users_in t.users) 1 ∙ ap (λ n. n + 1) t.counted.long ∙ sym (length_push t.kept.items _);
+  long = length_push (users_in t.users) 1 ∙ ap (λ n. n + 1) t.counted.long;
   each = λ n lt. elim (same_or n (layouts_of t)) [
-    | inl e ↦ omega (arith, get_or_push (users_in t.users) 1 1 n (t.counted.long ∙ sym e), none_count (is_set_of n) (slots_of t) (none n e), ap {B = ℕ} (λ (c : Chain). if is_removed c then 0 else 1) (chain_grown t.kept.items n ∙ get_or_past t.kept.items n _ (omega arith)))
-    | inr ne ↦ (let less : n < layouts_of t = (let long = length_push t.kept.items (record { first = 0; count = 0 }) in grind (arith, common_steps)) in omega (arith, t.counted.each n less, get_or_append_left (users_in t.users) (1 ∷ []) 1 n (let long = t.counted.long in omega arith), ap {B = ℕ} (λ (c : Chain). if is_removed c then 0 else 1) (chain_grown t.kept.items n)))
+    | inl e ↦ omega (arith, get_or_push (users_in t.users) 1 1 n (t.counted.long ∙ sym e), none_count (is_set_of n) (slots_of t) (none n e), ap {B = ℕ} (λ (c : Chain). if is_removed c then 0 else 1) (get_or_past t.lists.kept.items n (record { first = 0; count = 0 }) (omega arith)))
+    | inr ne ↦ omega (arith, t.counted.each n (omega arith), get_or_append_left (users_in t.users) (1 ∷ []) 1 n (let long = t.counted.long in omega arith))
   ];
 }
   where
@@ -171,5 +166,5 @@ added_counted {T} t = record {
     ]
 
 -- a slot without a set at the end
-pub grown_counted : {T : Type 0} (t : SetTable T) (slots : List (Slot T)) → slots ≡ slots_of t ++ no_slot ∷ [] → AreCounted slots t.kept.items (users_in t.users)
+pub grown_counted : {T : Type 0} (t : SetTable T) (slots : List (Slot T)) → slots ≡ slots_of t ++ no_slot ∷ [] → AreCounted slots (layouts_of t) (removed_of t) (users_in t.users)
 grown_counted t slots is = record { long = t.counted.long; each = λ n lt. omega (arith, t.counted.each n lt, ap (count (is_set_of n)) is, count_grown (is_set_of n) (slots_of t) no_slot) }

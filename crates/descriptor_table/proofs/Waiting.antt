@@ -1,4 +1,4 @@
--- The queue of the sets that wait, when a place comes to it or leaves it: for `enqueue`, and `SetTable::pick_waiting` and `pick_due`.
+-- The queue of the sets that wait, when a place comes to it or leaves it: for `enqueue`, and `SetTable::pick_due`.
 use Rattle.std.proofs.lemmas.Grind.{common_steps}
 use Rattle.std.proofs.Common.{◌≡◌, ◌≢◌, ℕ, zero, suc, ◌<◌, ◌≤◌, true, false, List, [], ◌∷◌, insert, length, get_or, set, inl, inr, refl, sym, ap, subst, ◌∙◌, arith, rules}
 use Rattle.std.proofs.lemmas.List.{length-set}
@@ -52,6 +52,10 @@ module _ {T : Type 0} where
     -- no set is due if the first one waits for a later frame
     pub none_due : (f d : ℕ) → f < frame slots (get_or l 0 d) → (p : ℕ) → is_due f (slot_at slots p) ≡ false
     none_due f d late p = not_due f (slot_at slots p) (λ e. along (λ p. f < frame slots p) l d (λ i lt. let a = queue.rises 0 i d (omega arith) lt in omega arith) p (λ none. true≢false (sym e ∙ one_none (waits (slot_at slots p)) (sym (queue.has p) ∙ none))))
+
+    -- each set that waits is due with the newest
+    pub all_due : (p : ℕ) → is_due newest (slot_at slots p) ≡ waits (slot_at slots p)
+    all_due p = grind (arith, common_steps, queue.bound p)
 
     -- each place of the queue is that of a set that waits
     pub waits_at : (i d : ℕ) → i < length l → waits (slot_at slots (get_or l i d)) ≡ true

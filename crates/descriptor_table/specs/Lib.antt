@@ -1,5 +1,6 @@
 pub mod Giving
 pub mod Handles
+pub mod Lists
 pub mod Places
 pub mod Sets
 pub mod Slots

@@ -72,14 +72,6 @@ is_removed c = c.count == 4294967295
 abbrev pub shown : Chain → Chain
 shown c = if is_removed c then record { first = 0; count = 0 } else c
 
--- whether the layout of a number was removed, by the lists of kept sets
-abbrev pub removed_by : List Chain → ℕ → Bool
-removed_by kept layout = is_removed (chain_at kept layout)
-
--- all lists by number: of vacant slots, of sets that go, and of the kept sets of each layout
-abbrev pub chains_in : Chain → Chain → List Chain → List Chain
-chains_in vacant going kept = vacant ∷ going ∷ map shown kept
-
 -- the slots of a table
 abbrev pub Slots : Type 0 → Type 0
 Slots T = List (Slot T)
@@ -186,6 +178,6 @@ module _ {T : Type 0} where
   is_set_of layout s = is_some s.set && (s.layout == layout)
 
   -- each layout's users are its sets, and the layout itself while it is there
-  pub record AreCounted (slots : Slots T) (kept : List Chain) (users : List ℕ) : Type 0 where
-    pub long : length users ≡ length kept
-    pub each : (layout : ℕ) → layout < length kept → users_at users layout ≡ count (is_set_of layout) slots + (if removed_by kept layout then 0 else 1)
+  pub record AreCounted (slots : Slots T) (layouts : ℕ) (removed : ℕ → Bool) (users : List ℕ) : Type 0 where
+    pub long : length users ≡ layouts
+    pub each : (layout : ℕ) → layout < layouts → users_at users layout ≡ count (is_set_of layout) slots + (if removed layout then 0 else 1)

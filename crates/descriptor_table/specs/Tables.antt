@@ -1,7 +1,8 @@
 -- How calls change the slots of a table.
 use Rattle.std.specs.Prelude.{◌≡◌, ◌≢◌, ℕ, ◌+◌, ◌-◌, ◌<◌, ◌≤◌, ◌⊎◌, ◌==◌, ◌&&◌, nat_lt, not, Bool, true, false, List, length, slice_index_or, slice_set, vec_capacity, is_some, if◌then◌else◌, Option, Some, None, MatchOption}
 use Rattle.std.specs.VecDeque.{deque_capacity}
-use Rattle.descriptor_table.specs.Slots.{IsNowhere, Slot, Slots, chains_in, count, slots_in, space_in, filled, is_in, is_kept_of, is_set_of, removed_by, slot_at}
+use Rattle.descriptor_table.specs.Slots.{IsNowhere, Slot, Slots, count, slots_in, space_in, filled, is_in, is_kept_of, is_set_of, slot_at}
+use Rattle.descriptor_table.specs.Lists.{chains_in, layouts_in, removed_in}
 use Rattle.descriptor_table.specs.Users.{HasNumberRoom}
 use Rattle.descriptor_table.specs.declared.handle.SetHandle.{SetHandle}
 use Rattle.descriptor_table.specs.declared.set_table.SetTable.{SetTable}
@@ -52,15 +53,15 @@ module _ {T : Type 0} where
 
   -- how many layouts have a number, the removed ones included
   abbrev pub layouts_of : SetTable T → ℕ
-  layouts_of t = length t.kept.items
+  layouts_of t = layouts_in t.lists
 
   -- whether the layout of a number was removed
   abbrev pub removed_of : SetTable T → ℕ → Bool
-  removed_of t = removed_by t.kept.items
+  removed_of t = removed_in t.lists
 
   -- all lists of a table
   abbrev pub chains_of : SetTable T → List Chain
-  chains_of t = chains_in t.vacant t.going t.kept.items
+  chains_of t = chains_in t.lists
 
   -- the settings of a table
   abbrev pub settings_of : SetTable T → Settings
@@ -95,7 +96,7 @@ module _ {T : Type 0} where
   -- there is memory for one more layout
   pub record HasListRoom (t : SetTable T) : Type 0 where
     pub few : layouts_of t < 2147483648
-    pub kept : layouts_of t + 1 ≤ vec_capacity t.kept
+    pub kept : layouts_of t + 1 ≤ vec_capacity t.lists.kept
     pub users : HasNumberRoom t.users
 
   -- a layout has the number of one that was removed, of which no set was left

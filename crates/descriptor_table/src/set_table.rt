@@ -2,7 +2,8 @@
 ghost use Rattle.std.specs.Prelude.{◌≡◌, ◌+◌, ◌<◌, ◌&&◌, [], length, true, if◌then◌else◌, IfSome, IsOk, None, OnErr, OnOk, false};
 ghost use Rattle.std.specs.Option.{option_copied};
 ghost use Rattle.std.specs.VecDeque.{deque_capacity};
-ghost use Rattle.descriptor_table.specs.Slots.{AreCounted, AreSound, chains_in, count, no_slot, removed_by, slot_at, slot_of, slots_in};
+ghost use Rattle.descriptor_table.specs.Lists.{chains_in, layouts_in, removed_in};
+ghost use Rattle.descriptor_table.specs.Slots.{AreCounted, AreSound, count, no_slot, slot_at, slot_of, slots_in};
 ghost use Rattle.descriptor_table.specs.Users.{users_in};
 
 mod back;
@@ -14,12 +15,12 @@ mod sets;
 mod waiting;
 
 use crate::handle::{SetHandle, SetName};
-use crate::slot::{Chain, Use};
+use crate::lists::Lists;
+use crate::slot::Use;
 use crate::slot_list::{AGED, SlotList};
 use crate::users::LayoutUsers;
 use std::alloc::{AllocError, Global};
 use std::collections::VecDeque;
-use std::vec::Vec;
 
 /// The max number of slots.
 const MAX_SLOTS: u64 = u32::MAX as u64 - 1;
@@ -37,14 +38,7 @@ pub struct SetTable<T> {
     pub(crate) number: u64,
     pub(crate) slots: SlotList<T>,
 
-    /// The slots without a set.
-    pub(crate) vacant: Chain,
-
-    /// The sets that return to their pools.
-    pub(crate) going: Chain,
-
-    /// The kept sets of each layout, by its number.
-    pub(crate) kept: Vec<Chain>,
+    pub(crate) lists: Lists,
     pub(crate) users: LayoutUsers,
 
     /// The places of the sets that wait for a frame, by rising frame.
@@ -58,9 +52,9 @@ pub struct SetTable<T> {
 
     /// For each group the place of the last set that went, after which the next one comes if it still goes.
     pub(crate) near: [u32; GROUPS],
-    ghost sound: { AreSound slots (chains_in vacant going kept.items) (length kept.items)
-        waiting.items (deque_capacity waiting) keep newest },
-    ghost counted: { AreCounted (slots_in slots) kept.items (users_in users) },
+    ghost sound: { AreSound slots (chains_in lists) (layouts_in lists) waiting.items
+        (deque_capacity waiting) keep newest },
+    ghost counted: { AreCounted (slots_in slots) (layouts_in lists) (removed_in lists) (users_in users) },
 }
 
 impl<T> SetTable<T> {
@@ -81,9 +75,7 @@ impl<T> SetTable<T> {
         SetTable {
             number,
             slots: SlotList::new(alloc),
-            vacant: Chain::EMPTY,
-            going: Chain::EMPTY,
-            kept: Vec::new(alloc),
+            lists: Lists::new(alloc),
             users: LayoutUsers::new(alloc),
             waiting: VecDeque::new(alloc),
             keep: u32::MAX,
@@ -130,7 +122,7 @@ impl<T> SetTable<T> {
         ensures full { OnErr result (count is_usable (slots_of self.old) < additional) }
         ensures only { OnlyMemory self.old self.new }
     {
-        let vacant = self.vacant.count;
+        let vacant = self.lists.vacant.count;
         if additional <= vacant {
             return Ok(());
         }

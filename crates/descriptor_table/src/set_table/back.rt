@@ -27,7 +27,7 @@ impl<T> SetTable<T> {
     {
         let slot = self.slots.at(place);
         let layout = slot.list() as usize;
-        let list = self.kept.get(layout)?;
+        let list = self.lists.kept.get(layout)?;
         let may = slot.generation < u32::MAX && list.count < self.keep;
         may.then_some(layout)
     }
@@ -161,7 +161,7 @@ impl<T> SetTable<T> {
     pub fn let_waiting_go(&mut self)
         ensures { Changes (Turns waits (Becomes (used_for Use.Going))) self.old self.new }
     {
-        while let Some(place) = self.pick_waiting() {
+        while let Some(place) = self.pick_due(self.newest) {
             self.let_go(place);
         }
     }
@@ -213,7 +213,7 @@ impl<T> SetTable<T> {
         ensures as_many { (layout : ℕ) → KeepsUpTo max (is_kept_of layout) (slots_of self.old)
             (slots_of self.new) }
     {
-        for layout in 0..self.kept.len() {
+        for layout in 0..self.lists.kept.len() {
             self.trim_layout(layout, max);
         }
     }

@@ -23,7 +23,7 @@ impl<T> SetTable<T> {
         ensures { result ≡ count is_kept (slots_of self.now) }
     {
         let mut total = 0;
-        for layout in 0..self.kept.len() {
+        for layout in 0..self.lists.kept.len() {
             total += u64::from(self.count(Group::KeptOf(layout)));
         }
         total

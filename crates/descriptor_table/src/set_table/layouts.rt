@@ -2,7 +2,6 @@
 ghost use Rattle.std.specs.Prelude.{◌≡◌, ◌+◌, ◌<◌, ℕ, false, true, IfSome, IsOk, None, OnOk, length};
 
 use super::{MAX_LAYOUTS, SetTable};
-use crate::slot::Chain;
 use std::alloc::AllocError;
 
 impl<T> SetTable<T> {
@@ -18,10 +17,10 @@ impl<T> SetTable<T> {
         ensures fits { HasListRoom self.old → IsOk result }
         ensures only { OnlySettings (settings_of self.old) self.old self.new }
     {
-        if self.kept.len() >= MAX_LAYOUTS {
+        if self.lists.kept.len() >= MAX_LAYOUTS {
             return Err(AllocError);
         }
-        self.kept.reserve(1)?;
+        self.lists.kept.reserve(1)?;
         self.users.reserve()
     }
 
@@ -31,7 +30,7 @@ impl<T> SetTable<T> {
         ensures { OnlySettings (record (settings_of self.old)
             { layouts = layouts_of self.old + 1 }) self.old self.new }
     {
-        self.kept.push_reserved(Chain::EMPTY);
+        self.lists.add();
         self.users.add();
     }
 
@@ -44,7 +43,7 @@ impl<T> SetTable<T> {
             self.old self.new }
     {
         let layout = self.users.take()?;
-        self.kept[layout as usize] = Chain::EMPTY;
+        self.lists.renew(layout);
         Some(layout)
     }
 
@@ -74,7 +73,7 @@ impl<T> SetTable<T> {
         ensures { OnlySettings (record (settings_of self.old)
             { removed = removed_with layout (removed_of self.old) }) self.old self.new }
     {
-        self.kept[layout as usize] = Chain::REMOVED;
+        self.lists.remove(layout);
         self.users.leave(layout as usize);
     }
 }

@@ -5,36 +5,22 @@ use super::waiting::enqueue;
 use super::{GROUPS, SetTable};
 use crate::giving::Group;
 use crate::handle::{SetHandle, SetName};
-use crate::slot::{Chain, Use};
+use crate::slot::Use;
 
 impl<T> SetTable<T> {
     ghost use Rattle.descriptor_table.specs.Giving.{is_of, list_of};
+    ghost use Rattle.descriptor_table.specs.Lists.{HasList};
     ghost use Rattle.descriptor_table.specs.Slots.{IsNowhere, chain_at, count, frame_of, goes, is_kept_of, is_live, slot_at};
     ghost use Rattle.descriptor_table.specs.Tables.{At, Changes, HasLayout, PicksAny, Renews, Stays};
     ghost use Rattle.descriptor_table.specs.Tables.{chains_of, removed_of};
     ghost use Rattle.descriptor_table.specs.Tables.{slots_of, used_for};
-
-    /// The list of a group, empty if there is no such layout.
-    #[inline]
-    fn list(&self, group: Group) -> Chain
-        ensures list { result ≡ chain_at (chains_of self.now) (list_of group) }
-        ensures count { result.count ≡ count (is_of group) (slots_of self.now) }
-    {
-        match group {
-            Group::Going => self.going,
-            Group::KeptOf(layout) => match self.kept.get(layout) {
-                Some(list) => list.shown(),
-                None => Chain::EMPTY,
-            },
-        }
-    }
 
     /// How many sets are in a group.
     #[inline]
     pub(super) fn count(&self, group: Group) -> u32
         ensures { result ≡ count (is_of group) (slots_of self.now) }
     {
-        self.list(group).count
+        self.lists.get(group).count
     }
 
     /// Takes the first set out of the list of a group.
@@ -42,17 +28,14 @@ impl<T> SetTable<T> {
     pub(super) fn pick(&mut self, group: Group) -> Option<usize>
         ensures { Changes (PicksAny (is_of group) result) self.old self.new }
     {
-        let list = self.list(group);
+        let list = self.lists.get(group);
         if list.count == 0 {
             return None;
         }
         let place = list.first as usize;
         let next = self.slots.at(place).next;
         self.slots.set_use(place, Use::Taken);
-        match group {
-            Group::Going => self.going.pop(next),
-            Group::KeptOf(layout) => self.kept[layout].pop(next),
-        }
+        self.lists.pop(group, next);
         Some(place)
     }
 
@@ -62,22 +45,12 @@ impl<T> SetTable<T> {
         requires within { place < length (slots_of self.old) }
         requires idle { IsNowhere (slot_at (slots_of self.old) place).used }
         requires goes { is_of group (used_for used (slot_at (slots_of self.old) place)) ≡ true }
-        requires there { 2 ≤ list_of group → removed_of self.old (slot_at (slots_of self.old) place).layout
-            ≡ false }
+        requires there { HasList group self.old.lists }
         requires few { 2 ≤ list_of group → count (is_of group) (slots_of self.old) < self.old.keep }
         ensures { Changes (At place (used_for used)) self.old self.new }
     {
-        match group {
-            Group::Going => {
-                self.slots.link(place, self.going.first, used);
-                self.going.push(place as u32);
-            }
-            Group::KeptOf(layout) => {
-                let list = &mut self.kept[layout];
-                self.slots.link(place, list.first, used);
-                list.push(place as u32);
-            }
-        }
+        self.slots.link(place, self.lists.first(group), used);
+        self.lists.push(group, place as u32);
     }
 
     /// Whether a set of a group goes at a place.
@@ -101,7 +74,7 @@ impl<T> SetTable<T> {
         ensures { Changes (At place (used_for Use.Going)) self.old self.new }
     {
         self.slots.link_after(near, place as u32, Use::Going);
-        self.going.count += 1;
+        self.lists.going.count += 1;
     }
 
     /// Lets a set go that is in no list, after the last one of its group if that goes.
@@ -135,9 +108,9 @@ impl<T> SetTable<T> {
         ensures fits { N.fit result (slot_at (slots_of self.new) (N.handle_of result).place).set ≡ true }
         ensures stays { Stays self.old self.new }
     {
-        let list = &mut self.kept[layout as usize];
-        let place = list.first;
-        list.pop(self.slots.at(place as usize).next);
+        let group = Group::KeptOf(layout as usize);
+        let place = self.lists.first(group);
+        self.lists.pop(group, self.slots.at(place as usize).next);
         let generation = self.slots.renew(place as usize, used);
         let handle = SetHandle {
             manager: self.number,
@@ -162,7 +135,7 @@ impl<T> SetTable<T> {
         ensures count { result ≡ count (is_kept_of layout) (slots_of self.now) }
         ensures few { result ≤ self.now.keep }
     {
-        self.kept[layout as usize].count
+        self.lists.kept[layout as usize].count
     }
 
     /// Whether a group is empty.

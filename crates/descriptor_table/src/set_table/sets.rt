@@ -30,7 +30,7 @@ impl<T> SetTable<T> {
         ensures reserve { (n : ℕ) → HasRoom (n + 1) self.old → HasRoom n self.new }
         ensures settings { settings_of self.new ≡ settings_of self.old }
     {
-        if self.vacant.count == 0 {
+        if self.lists.vacant.count == 0 {
             self.add_place();
         }
         self.fill(layout, group, set, used)
@@ -57,8 +57,8 @@ impl<T> SetTable<T> {
         requires next { (slot_at (slots_of self.old) place).generation < 4294967295 }
         ensures { Changes (At place (used_for Use.Vacant)) self.old self.new }
     {
-        self.slots.link(place, self.vacant.first, Use::Vacant);
-        self.vacant.push(place as u32);
+        self.slots.link(place, self.lists.vacant.first, Use::Vacant);
+        self.lists.vacant.push(place as u32);
     }
 
     /// Puts a set into a slot that has none, and to a use, and returns its name.
@@ -74,14 +74,14 @@ impl<T> SetTable<T> {
         ensures fits { N.fit result (Some set) ≡ true }
         ensures stays { Stays self.old self.new }
     {
-        let place = self.vacant.first;
+        let place = self.lists.vacant.first;
         let slot = self.slots.at(place as usize);
         let handle = SetHandle {
             manager: self.number,
             place,
             generation: slot.generation + 1,
         };
-        self.vacant.pop(slot.next);
+        self.lists.vacant.pop(slot.next);
         let name = N::of(handle, Some(&set));
         self.slots.fill(place as usize, handle.generation, layout, group, set, used);
         self.users.join(layout as usize);
@@ -122,8 +122,8 @@ impl<T> SetTable<T> {
             return self.retire(place);
         }
         self.users.leave(slot.layout() as usize);
-        let set = self.slots.vacate(place, self.vacant.first);
-        self.vacant.push(place as u32);
+        let set = self.slots.vacate(place, self.lists.vacant.first);
+        self.lists.vacant.push(place as u32);
         set
     }
 

@@ -97,16 +97,6 @@ impl<T> SetTable<T> {
         );
     }
 
-    /// Takes the first set that waits.
-    #[inline]
-    pub(super) fn pick_waiting(&mut self) -> Option<usize>
-        ensures { Changes (PicksAny waits result) self.old self.new }
-    {
-        let first = self.waiting.pop_front()?;
-        self.slots.set_use(first as usize, Use::Taken);
-        Some(first as usize)
-    }
-
     /// Takes a set that waits for a frame up to this one, if there is one.
     #[inline]
     pub(super) fn pick_due(&mut self, frame: u64) -> Option<usize>

@@ -5,6 +5,7 @@
 mod giving;
 mod handle;
 mod handle_table;
+mod lists;
 mod set_table;
 mod slot;
 mod slot_list;

@@ -10,12 +10,12 @@ mod sets;
 mod waiting;
 
 use crate::descriptor_table::handle::{SetHandle, SetName};
-use crate::descriptor_table::slot::{Chain, Use};
+use crate::descriptor_table::lists::Lists;
+use crate::descriptor_table::slot::Use;
 use crate::descriptor_table::slot_list::{AGED, SlotList};
 use crate::descriptor_table::users::LayoutUsers;
 use crate::kit::alloc::{AllocError, Global};
 use crate::kit::collections::VecDeque;
-use crate::kit::vec::Vec;
 
 /// The max number of slots.
 const MAX_SLOTS: u64 = u32::MAX as u64 - 1;
@@ -32,14 +32,7 @@ pub struct SetTable<T> {
     pub(crate) number: u64,
     pub(crate) slots: SlotList<T>,
 
-    /// The slots without a set.
-    pub(crate) vacant: Chain,
-
-    /// The sets that return to their pools.
-    pub(crate) going: Chain,
-
-    /// The kept sets of each layout, by its number.
-    pub(crate) kept: Vec<Chain>,
+    pub(crate) lists: Lists,
     pub(crate) users: LayoutUsers,
 
     /// The places of the sets that wait for a frame, by rising frame.
@@ -62,9 +55,7 @@ impl<T> SetTable<T> {
         SetTable {
             number,
             slots: SlotList::new(alloc),
-            vacant: Chain::EMPTY,
-            going: Chain::EMPTY,
-            kept: Vec::new(alloc),
+            lists: Lists::new(alloc),
             users: LayoutUsers::new(alloc),
             waiting: VecDeque::new(alloc),
             keep: u32::MAX,
@@ -103,7 +94,7 @@ impl<T> SetTable<T> {
     #[inline]
     pub fn reserve(&mut self, additional: u32) -> Result<(), AllocError>
     {
-        let vacant = self.vacant.count;
+        let vacant = self.lists.vacant.count;
         if additional <= vacant {
             return Ok(());
         }

@@ -14,7 +14,7 @@ impl<T> SetTable<T> {
     {
         let slot = self.slots.at(place);
         let layout = slot.list() as usize;
-        let list = self.kept.get(layout)?;
+        let list = self.lists.kept.get(layout)?;
         let may = slot.generation < u32::MAX && list.count < self.keep;
         may.then_some(layout)
     }
@@ -103,7 +103,7 @@ impl<T> SetTable<T> {
     /// Lets all sets that wait for a frame go.
     pub fn let_waiting_go(&mut self)
     {
-        while let Some(place) = self.pick_waiting() {
+        while let Some(place) = self.pick_due(self.newest) {
             self.let_go(place);
         }
     }
@@ -143,7 +143,7 @@ impl<T> SetTable<T> {
     /// Lets kept sets go, until at most `max` of each layout are left.
     pub fn trim(&mut self, max: u32)
     {
-        for layout in 0..self.kept.len() {
+        for layout in 0..self.lists.kept.len() {
             self.trim_layout(layout, max);
         }
     }

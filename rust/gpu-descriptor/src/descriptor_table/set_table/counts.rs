@@ -16,7 +16,7 @@ impl<T> SetTable<T> {
     pub fn kept_total(&self) -> u64
     {
         let mut total = 0;
-        for layout in 0..self.kept.len() {
+        for layout in 0..self.lists.kept.len() {
             total += u64::from(self.count(Group::KeptOf(layout)));
         }
         total

@@ -2,24 +2,23 @@
 //! Layouts that are added and removed, and sets that age.
 
 use super::{MAX_LAYOUTS, SetTable};
-use crate::descriptor_table::slot::Chain;
 use crate::kit::alloc::AllocError;
 
 impl<T> SetTable<T> {
     /// Reserves memory for one more layout. It fails if there are 2^31.
     pub fn reserve_layout(&mut self) -> Result<(), AllocError>
     {
-        if self.kept.len() >= MAX_LAYOUTS {
+        if self.lists.kept.len() >= MAX_LAYOUTS {
             return Err(AllocError);
         }
-        self.kept.reserve(1)?;
+        self.lists.kept.reserve(1)?;
         self.users.reserve()
     }
 
     /// Adds a layout under the next number, in reserved memory.
     pub fn add_layout(&mut self)
     {
-        self.kept.push_reserved(Chain::EMPTY);
+        self.lists.add();
         self.users.add();
     }
 
@@ -29,7 +28,7 @@ impl<T> SetTable<T> {
     pub fn renew_layout(&mut self) -> Option<u32>
     {
         let layout = self.users.take()?;
-        self.kept[layout as usize] = Chain::EMPTY;
+        self.lists.renew(layout);
         Some(layout)
     }
 
@@ -52,7 +51,7 @@ impl<T> SetTable<T> {
     /// its number before all of them are.
     pub fn remove_layout(&mut self, layout: u32)
     {
-        self.kept[layout as usize] = Chain::REMOVED;
+        self.lists.remove(layout);
         self.users.leave(layout as usize);
     }
 }

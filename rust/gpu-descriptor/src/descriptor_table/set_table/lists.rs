@@ -5,44 +5,28 @@ use super::waiting::enqueue;
 use super::{GROUPS, SetTable};
 use crate::descriptor_table::giving::Group;
 use crate::descriptor_table::handle::{SetHandle, SetName};
-use crate::descriptor_table::slot::{Chain, Use};
+use crate::descriptor_table::slot::Use;
 
 impl<T> SetTable<T> {
-    /// The list of a group, empty if there is no such layout.
-    #[inline]
-    fn list(&self, group: Group) -> Chain
-    {
-        match group {
-            Group::Going => self.going,
-            Group::KeptOf(layout) => match self.kept.get(layout) {
-                Some(list) => list.shown(),
-                None => Chain::EMPTY,
-            },
-        }
-    }
-
     /// How many sets are in a group.
     #[inline]
     pub(super) fn count(&self, group: Group) -> u32
     {
-        self.list(group).count
+        self.lists.get(group).count
     }
 
     /// Takes the first set out of the list of a group.
     #[inline]
     pub(super) fn pick(&mut self, group: Group) -> Option<usize>
     {
-        let list = self.list(group);
+        let list = self.lists.get(group);
         if list.count == 0 {
             return None;
         }
         let place = list.first as usize;
         let next = self.slots.at(place).next;
         self.slots.set_use(place, Use::Taken);
-        match group {
-            Group::Going => self.going.pop(next),
-            Group::KeptOf(layout) => self.kept[layout].pop(next),
-        }
+        self.lists.pop(group, next);
         Some(place)
     }
 
@@ -50,17 +34,8 @@ impl<T> SetTable<T> {
     #[inline]
     pub(super) fn link(&mut self, group: Group, place: usize, used: Use)
     {
-        match group {
-            Group::Going => {
-                self.slots.link(place, self.going.first, used);
-                self.going.push(place as u32);
-            }
-            Group::KeptOf(layout) => {
-                let list = &mut self.kept[layout];
-                self.slots.link(place, list.first, used);
-                list.push(place as u32);
-            }
-        }
+        self.slots.link(place, self.lists.first(group), used);
+        self.lists.push(group, place as u32);
     }
 
     /// Whether a set of a group goes at a place.
@@ -78,7 +53,7 @@ impl<T> SetTable<T> {
     fn link_after(&mut self, near: usize, place: usize)
     {
         self.slots.link_after(near, place as u32, Use::Going);
-        self.going.count += 1;
+        self.lists.going.count += 1;
     }
 
     /// Lets a set go that is in no list, after the last one of its group if that goes.
@@ -100,9 +75,9 @@ impl<T> SetTable<T> {
     #[inline(always)]
     pub fn hold_kept<N: SetName<T>>(&mut self, layout: u32, used: Use) -> N
     {
-        let list = &mut self.kept[layout as usize];
-        let place = list.first;
-        list.pop(self.slots.at(place as usize).next);
+        let group = Group::KeptOf(layout as usize);
+        let place = self.lists.first(group);
+        self.lists.pop(group, self.slots.at(place as usize).next);
         let generation = self.slots.renew(place as usize, used);
         let handle = SetHandle {
             manager: self.number,
@@ -124,7 +99,7 @@ impl<T> SetTable<T> {
     #[inline]
     pub fn kept_count(&self, layout: u32) -> u32
     {
-        self.kept[layout as usize].count
+        self.lists.kept[layout as usize].count
     }
 
     /// Whether a group is empty.

@@ -13,7 +13,7 @@ impl<T> SetTable<T> {
     #[inline(always)]
     pub fn put<N: SetName<T>>(&mut self, layout: u32, group: u8, set: T, used: Use) -> N
     {
-        if self.vacant.count == 0 {
+        if self.lists.vacant.count == 0 {
             self.add_place();
         }
         self.fill(layout, group, set, used)
@@ -33,22 +33,22 @@ impl<T> SetTable<T> {
     #[inline]
     fn link_vacant(&mut self, place: usize)
     {
-        self.slots.link(place, self.vacant.first, Use::Vacant);
-        self.vacant.push(place as u32);
+        self.slots.link(place, self.lists.vacant.first, Use::Vacant);
+        self.lists.vacant.push(place as u32);
     }
 
     /// Puts a set into a slot that has none, and to a use, and returns its name.
     #[inline(always)]
     fn fill<N: SetName<T>>(&mut self, layout: u32, group: u8, set: T, used: Use) -> N
     {
-        let place = self.vacant.first;
+        let place = self.lists.vacant.first;
         let slot = self.slots.at(place as usize);
         let handle = SetHandle {
             manager: self.number,
             place,
             generation: slot.generation + 1,
         };
-        self.vacant.pop(slot.next);
+        self.lists.vacant.pop(slot.next);
         let name = N::of(handle, Some(&set));
         self.slots.fill(place as usize, handle.generation, layout, group, set, used);
         self.users.join(layout as usize);
@@ -82,8 +82,8 @@ impl<T> SetTable<T> {
             return self.retire(place);
         }
         self.users.leave(slot.layout() as usize);
-        let set = self.slots.vacate(place, self.vacant.first);
-        self.vacant.push(place as u32);
+        let set = self.slots.vacate(place, self.lists.vacant.first);
+        self.lists.vacant.push(place as u32);
         set
     }
 

@@ -8,11 +8,11 @@ use Rattle.descriptor_table.specs.declared.slot.Use.{Use}
 use Rattle.descriptor_table.specs.declared.slot.Use.TheVariants.{Taken}
 use Rattle.descriptor_table.proofs.Chains.{taken_no_list}
 use Rattle.descriptor_table.proofs.Counting.{same_or}
-use Rattle.descriptor_table.proofs.Counts.{bit, chain_count, count_set}
+use Rattle.descriptor_table.proofs.Counts.{group_has, some_count, bit, chain_count, count_set}
 use Rattle.descriptor_table.proofs.Holding.{all_same, used_same}
 use Rattle.descriptor_table.proofs.Listed.{other_slots, slot_set, test_within, with_use}
 use Rattle.descriptor_table.proofs.Turning.{stays_more}
-use Rattle.descriptor_table.proofs.Writing.{list_some, listed_there}
+use Rattle.descriptor_table.proofs.Writing.{has_still, list_some}
 use Rattle.descriptor_table.proofs.set_table.SetTable.+unlink.Goals as goal
 
 -- two slots of one list of sets are in the same use
@@ -60,13 +60,10 @@ link-requires-clause-goes g t c =
     ap (is_of c.args.group) (first_again (list_of c.args.group) c.in-Some.first c.args.place c.args.used (slots_of c.args.self.now) (slots_of c.pick.new.self) (list_some c.args.group) picks c.if-first-place.false c.requires.listed c.requires.used (slots_of c.unlink.new.self) c.unlink.ensures.slots) ∙ picks.was
 
 pub link-requires-clause-there : goal.link-requires-clause-there
-link-requires-clause-there g t c = λ two.
+link-requires-clause-there g t c =
     let s = c.args.self.now in
-    let first = c.in-Some.first in
-    let picks = c.in-Some.ensures in
-    let again = first_again (list_of c.args.group) first c.args.place c.args.used (slots_of s) (slots_of c.pick.new.self) (list_some c.args.group) picks.slots c.if-first-place.false c.requires.listed c.requires.used (slots_of c.unlink.new.self) c.unlink.ensures.slots in
-    let same = (ap (λ (s : Settings). s.removed) c.unlink.ensures.stays.settings) ∙ (ap (λ (s : Settings). s.removed) picks.stays.settings) in
-    (λ i. (same i) (again i).layout) ∙ listed_there s c.args.group first two picks.slots.was
+    has_still s c.unlink.new.self (c.unlink.ensures.stays.settings ∙ c.in-Some.ensures.stays.settings) c.args.group
+    (group_has s c.args.group (some_count (is_of c.args.group) (slots_of s) c.args.place refl c.requires.listed))
 
 pub link-requires-clause-few : goal.link-requires-clause-few
 link-requires-clause-few g t c = λ two.

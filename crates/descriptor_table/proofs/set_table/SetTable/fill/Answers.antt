@@ -1,8 +1,9 @@
 use Rattle.std.proofs.Common.{ap, is_some, refl, sym, subst, rules, ◌+◌, arith}
 use Rattle.std.proofs.lemmas.List.{set-set}
 use Rattle.std.specs.VecDeque.{deque_capacity}
-use Rattle.descriptor_table.specs.Slots.{AreCounted, AreSound, Slot, chains_in, slot_at, slots_in}
-use Rattle.descriptor_table.specs.Tables.{layouts_of, slots_of}
+use Rattle.descriptor_table.specs.Lists.{chains_in}
+use Rattle.descriptor_table.specs.Slots.{AreCounted, AreSound, Slot, slot_at, slots_in}
+use Rattle.descriptor_table.specs.Tables.{layouts_of, removed_of, slots_of}
 use Rattle.descriptor_table.specs.Users.{users_in}
 use Rattle.descriptor_table.proofs.Chains.{listed_out}
 use Rattle.descriptor_table.proofs.Heads.{first, left_sound, more, still}
@@ -12,22 +13,22 @@ use Rattle.descriptor_table.proofs.Renewing.{vacant_is}
 use Rattle.descriptor_table.proofs.set_table.SetTable.fill.Goals as goal
 
 pub at-slot-requires : goal.at-slot-requires
-at-slot-requires g c = let s = c.args.self.now in search (rules, first s 0 c.requires.some s.vacant refl)
+at-slot-requires g c = let s = c.args.self.now in search (rules, first s 0 c.requires.some s.lists.vacant refl)
 
 pub overflow_add-handle : goal.overflow_add-handle
 overflow_add-handle g c =
     let s = c.args.self.now in
-    let next = (vacant_is (slot_at (slots_of s) s.vacant.first) (first s 0 c.requires.some s.vacant refl).1).1 in
+    let next = (vacant_is (slot_at (slots_of s) s.lists.vacant.first) (first s 0 c.requires.some s.lists.vacant refl).1).1 in
     omega (arith, next, ap (λ (s : Slot g.row.T.Denot). s.generation) c.at-slot.ensures.slot)
 
 pub pop-requires : goal.pop-requires
-pop-requires g c = let s = c.args.self.now in more s 0 c.requires.some s.vacant refl
+pop-requires g c = let s = c.args.self.now in more s 0 c.requires.some s.lists.vacant refl
 
 pub fill-requires-clause-within : goal.fill-requires-clause-within
-fill-requires-clause-within g c = let s = c.args.self.now in search (rules, first s 0 c.requires.some s.vacant refl)
+fill-requires-clause-within g c = let s = c.args.self.now in search (rules, first s 0 c.requires.some s.lists.vacant refl)
 
 pub fill-requires-clause-empty : goal.fill-requires-clause-empty
-fill-requires-clause-empty g c = let s = c.args.self.now in search (rules, vacant_is, first s 0 c.requires.some s.vacant refl)
+fill-requires-clause-empty g c = let s = c.args.self.now in search (rules, vacant_is, first s 0 c.requires.some s.lists.vacant refl)
 
 pub fill-requires-clause-next : goal.fill-requires-clause-next
 fill-requires-clause-next g c = ap (λ (s : Slot g.row.T.Denot). s.generation + 1) c.at-slot.ensures.slot
@@ -41,29 +42,29 @@ join-requires-clause-some g c = there_user c.args.self.now c.args.layout c.requi
 pub join-requires-clause-few : goal.join-requires-clause-few
 join-requires-clause-few g c =
     let s = c.args.self.now in
-    let at = first s 0 c.requires.some s.vacant refl in
-    few_users s c.args.layout c.requires.layout s.vacant.first at.0 (ap is_some (vacant_is (slot_at (slots_of s) s.vacant.first) at.1).0)
+    let at = first s 0 c.requires.some s.lists.vacant refl in
+    few_users s c.args.layout c.requires.layout s.lists.vacant.first at.0 (ap is_some (vacant_is (slot_at (slots_of s) s.lists.vacant.first) at.1).0)
 
 pub enqueue-requires-clause-within : goal.enqueue-requires-clause-within
-enqueue-requires-clause-within g c = let s = c.args.self.now in search (rules, still s 0 c.requires.some s.vacant refl)
+enqueue-requires-clause-within g c = let s = c.args.self.now in search (rules, still s 0 c.requires.some s.lists.vacant refl)
 
 pub enqueue-requires-clause-came : goal.enqueue-requires-clause-came
-enqueue-requires-clause-came g c = let s = c.args.self.now in search (rules, first s 0 c.requires.some s.vacant refl, listed_out)
+enqueue-requires-clause-came g c = let s = c.args.self.now in search (rules, first s 0 c.requires.some s.lists.vacant refl, listed_out)
 
 pub invariant_of-self-clause-sound : goal.invariant_of-self-clause-sound
 invariant_of-self-clause-sound g c =
     let s = c.args.self.now in
-    subst (λ vacant. AreSound c.fill.new.self (chains_in vacant s.going s.kept.items) (layouts_of s) c.enqueue.new.waiting.items (deque_capacity c.enqueue.new.waiting) s.keep c.enqueue.new.newest) (sym c.pop.ensures)
-    (left_sound s 0 c.requires.some s.vacant refl c.fill.new.self _ c.fill.ensures.writes.slots c.at-slot.ensures.next c.fill.ensures.nexts c.requires.live c.requires.layout.within refl c.enqueue.ensures.capacity c.enqueue.ensures.queue)
+    subst (λ vacant. AreSound c.fill.new.self (chains_in (record s.lists { vacant = vacant })) (layouts_of s) c.enqueue.new.waiting.items (deque_capacity c.enqueue.new.waiting) s.keep c.enqueue.new.newest) (sym c.pop.ensures)
+    (left_sound s 0 c.requires.some s.lists.vacant refl c.fill.new.self _ c.fill.ensures.writes.slots c.at-slot.ensures.next c.fill.ensures.nexts c.requires.live c.requires.layout.within refl c.enqueue.ensures.capacity c.enqueue.ensures.queue)
 
 pub invariant_of-self-clause-counted : goal.invariant_of-self-clause-counted
 invariant_of-self-clause-counted g c =
     let s = c.args.self.now in
-    let at = first s 0 c.requires.some s.vacant refl in
-    subst (AreCounted (slots_in c.fill.new.self) s.kept.items) (sym c.join.ensures) (joined_counted (slots_of s) (slots_in c.fill.new.self) s.kept.items s.kept.items (users_in s.users) s.counted s.vacant.first _ at.0 c.fill.ensures.writes.slots refl (λ n. refl) c.args.layout refl c.requires.layout.within (ap is_some (vacant_is (slot_at (slots_of s) s.vacant.first) at.1).0) refl)
+    let at = first s 0 c.requires.some s.lists.vacant refl in
+    subst (AreCounted (slots_in c.fill.new.self) (layouts_of s) (removed_of s)) (sym c.join.ensures) (joined_counted (slots_of s) (slots_in c.fill.new.self) (layouts_of s) (removed_of s) (users_in s.users) s.counted s.lists.vacant.first _ at.0 c.fill.ensures.writes.slots c.args.layout refl c.requires.layout.within (ap is_some (vacant_is (slot_at (slots_of s) s.lists.vacant.first) at.1).0) refl)
 
 pub returns-clause-usable : goal.returns-clause-usable
-returns-clause-usable g c = let s = c.args.self.now in search (rules, first s 0 c.requires.some s.vacant refl)
+returns-clause-usable g c = let s = c.args.self.now in search (rules, first s 0 c.requires.some s.lists.vacant refl)
 
 pub returns-clause-renews : goal.returns-clause-renews
-returns-clause-renews g c = let s = c.args.self.now in search (rules, set-set, slot_set, first s 0 c.requires.some s.vacant refl)
+returns-clause-renews g c = let s = c.args.self.now in search (rules, set-set, slot_set, first s 0 c.requires.some s.lists.vacant refl)

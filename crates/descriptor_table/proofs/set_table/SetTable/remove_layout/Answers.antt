@@ -1,9 +1,10 @@
-use Rattle.std.proofs.Common.{◌+◌, ◌∙◌, set, refl, sym, subst, arith}
-use Rattle.std.proofs.lemmas.List.{length-map, length-set}
-use Rattle.descriptor_table.specs.Slots.{AreCounted, AreSound, is_kept_of, nexts_in, shown}
-use Rattle.descriptor_table.specs.Tables.{chains_of, layouts_of, slots_of}
-use Rattle.descriptor_table.proofs.Counts.{chain_count, none_count}
-use Rattle.descriptor_table.proofs.Entries.{chain_written, in_place, settings_written}
+use Rattle.std.proofs.Common.{◌+◌, ◌∙◌, refl, subst, sym, arith}
+use Rattle.std.proofs.lemmas.List.{length-map}
+use Rattle.descriptor_table.specs.Slots.{AreCounted, AreSound, is_kept_of, shown}
+use Rattle.descriptor_table.specs.Tables.{chains_of, layouts_of, removed_of, removed_with, slots_of}
+use Rattle.descriptor_table.proofs.Counts.{chain_counts, none_count}
+use Rattle.descriptor_table.specs.Users.{users_in}
+use Rattle.descriptor_table.proofs.Entries.{in_place}
 use Rattle.descriptor_table.proofs.Numbers.{removed_counted, there_user}
 use Rattle.descriptor_table.proofs.Sound.{emptied_sound}
 use Rattle.descriptor_table.proofs.set_table.SetTable.remove_layout.Goals as goal
@@ -15,12 +16,14 @@ pub invariant_of-self-clause-sound : goal.invariant_of-self-clause-sound
 invariant_of-self-clause-sound g c =
     let s = c.args.self.now in
     let n = c.args.layout in
-    let none = chain_count (slots_of s) (nexts_in s.slots) (chains_of s) s.sound.linked (n + 2) ∙ none_count (is_kept_of n) (slots_of s) c.requires.none_kept in
-    in_place (λ chains layouts. AreSound s.slots chains layouts s.waiting.items s.waiting.cap s.keep s.newest) _ _ _ _ (chain_written s.vacant s.going s.kept.items n _) (length-set s.kept.items n _)
-    (emptied_sound s.slots s.slots (chains_of s) (layouts_of s) s.waiting.items s.waiting.cap s.keep s.newest s.sound (n + 2) _ none refl (omega (arith, length-map s.kept.items shown, c.requires.layout.within)))
+    let none = chain_counts s (n + 2) ∙ none_count (is_kept_of n) (slots_of s) c.requires.none_kept in
+    in_place (λ chains layouts. AreSound s.slots chains layouts s.waiting.items s.waiting.cap s.keep s.newest) _ _ _ _ c.remove.ensures.chains c.remove.ensures.layouts
+    (emptied_sound s.slots s.slots (chains_of s) (layouts_of s) s.waiting.items s.waiting.cap s.keep s.newest s.sound (n + 2) _ none refl (omega (arith, length-map s.lists.kept.items shown, c.requires.layout.within)))
 
 pub invariant_of-self-clause-counted : goal.invariant_of-self-clause-counted
-invariant_of-self-clause-counted g c = let s = c.args.self.now in subst (AreCounted (slots_of s) (set s.kept.items c.args.layout (record { first = 0; count = 4294967295 }))) (sym c.leave.ensures) (removed_counted s c.args.layout _ c.requires.layout refl)
+invariant_of-self-clause-counted g c =
+    let s = c.args.self.now in
+    in_place (λ layouts removed. AreCounted (slots_of s) layouts removed (users_in c.leave.new.self)) _ _ _ _ c.remove.ensures.layouts c.remove.ensures.removed (subst (AreCounted (slots_of s) (layouts_of s) (removed_with c.args.layout (removed_of s))) (sym c.leave.ensures) (removed_counted s c.args.layout c.requires.layout))
 
 pub returns : goal.returns
-returns g c = let s = c.args.self.now in record { slots = refl; settings = settings_written s.number s.keep s.kept.items c.args.layout _ c.requires.layout.within }
+returns g c = let s = c.args.self.now in record { slots = refl; settings = λ i. record { number = s.number; layouts = c.remove.ensures.layouts i; removed = c.remove.ensures.removed i; keep = s.keep } }

@@ -1,7 +1,7 @@
 use Rattle.std.proofs.lemmas.Grind.{common_steps}
 use Rattle.std.proofs.Common.{◌∙◌, ◌<◌, refl, subst, sym, ap, arith}
 use Rattle.descriptor_table.specs.Slots.{AreCounted, Slot, slot_at, slots_in}
-use Rattle.descriptor_table.specs.Tables.{chains_of, layouts_of, slots_of, vacated}
+use Rattle.descriptor_table.specs.Tables.{chains_of, layouts_of, removed_of, slots_of, vacated}
 use Rattle.descriptor_table.specs.Users.{users_in}
 use Rattle.descriptor_table.proofs.Chains.{taken_no_list, taken_out}
 use Rattle.descriptor_table.proofs.Numbers.{left_counted, set_user}
@@ -9,7 +9,7 @@ use Rattle.descriptor_table.proofs.Sound.{out_sound}
 use Rattle.descriptor_table.proofs.set_table.SetTable.retire.Goals as goal
 
 pub leave-requires-clause-some : goal.leave-requires-clause-some
-leave-requires-clause-some g c = let s = c.args.self.now in grind (arith, common_steps, set_user (slots_of s) s.kept.items (users_in s.users) s.counted c.args.place)
+leave-requires-clause-some g c = let s = c.args.self.now in grind (arith, common_steps, set_user s c.args.place)
 
 pub invariant_of-self-clause-sound : goal.invariant_of-self-clause-sound
 invariant_of-self-clause-sound g c =
@@ -20,5 +20,5 @@ pub invariant_of-self-clause-counted : goal.invariant_of-self-clause-counted
 invariant_of-self-clause-counted g c =
     let s = c.args.self.now in
     let layout = ap (λ (s : Slot g.row.T.Denot). s.layout) (sym c.at-slot.ensures.slot) ∙ sym c.layout.ensures in
-    subst (AreCounted (slots_in c.vacate.new.self) s.kept.items) (sym c.leave.ensures)
-    (left_counted (slots_of s) (slots_in c.vacate.new.self) s.kept.items s.kept.items (users_in s.users) s.counted c.args.place _ c.requires.taken.taken.within c.vacate.ensures.writes.slots refl (λ n. refl) c.layout.result layout (subst (λ n. n < layouts_of s) layout (s.sound.known c.args.place c.requires.taken.taken.within).there) c.requires.taken.full refl)
+    subst (AreCounted (slots_in c.vacate.new.self) (layouts_of s) (removed_of s)) (sym c.leave.ensures)
+    (left_counted (slots_of s) (slots_in c.vacate.new.self) (layouts_of s) (removed_of s) (users_in s.users) s.counted c.args.place _ c.requires.taken.taken.within c.vacate.ensures.writes.slots c.layout.result layout (subst (λ n. n < layouts_of s) layout (s.sound.known c.args.place c.requires.taken.taken.within).there) c.requires.taken.full refl)

@@ -1,7 +1,8 @@
 use Rattle.std.proofs.lemmas.Grind.{common_steps}
 use Rattle.std.proofs.Common.{◌∙◌, ◌≡◌, ◌<◌, refl, subst, sym, ap, true, arith}
-use Rattle.descriptor_table.specs.Slots.{AreCounted, AreSound, IsNowhere, Slot, chains_in, is_in, slot_at, slots_in}
-use Rattle.descriptor_table.specs.Tables.{layouts_of, slots_of, vacated}
+use Rattle.descriptor_table.specs.Lists.{chains_in}
+use Rattle.descriptor_table.specs.Slots.{AreCounted, AreSound, IsNowhere, Slot, is_in, slot_at, slots_in}
+use Rattle.descriptor_table.specs.Tables.{layouts_of, removed_of, slots_of, vacated}
 use Rattle.descriptor_table.specs.Users.{users_in}
 use Rattle.descriptor_table.proofs.Numbers.{left_counted, set_user}
 use Rattle.descriptor_table.proofs.Writing.{few_more, front_sound}
@@ -9,7 +10,7 @@ use Rattle.descriptor_table.proofs.set_table.SetTable.take_out.Goals.{After-leav
 use Rattle.descriptor_table.proofs.set_table.SetTable.take_out.Goals as goal
 
 pub leave-requires-clause-some : goal.leave-requires-clause-some
-leave-requires-clause-some g c = let s = c.args.self.now in grind (arith, common_steps, set_user (slots_of s) s.kept.items (users_in s.users) s.counted c.args.place)
+leave-requires-clause-some g c = let s = c.args.self.now in grind (arith, common_steps, set_user s c.args.place)
 
 -- a call has the slot, and without its set it is vacant
 idle : (g : _) (c : After-leave g) → IsNowhere (slot_at (slots_of c.args.self.now) c.args.place).used
@@ -28,12 +29,12 @@ pub invariant_of-self-2-clause-sound : goal.invariant_of-self-2-clause-sound
 invariant_of-self-2-clause-sound g c =
     let d = (goal.at.invariant_of-self-2-clause-sound g c).After-leave in
     let s = c.args.self.now in
-    subst (λ vacant. AreSound c.vacate-set.new.self (chains_in vacant s.going s.kept.items) (layouts_of s) s.waiting.items s.waiting.cap s.keep s.newest) (sym c.push.ensures)
+    subst (λ vacant. AreSound c.vacate-set.new.self (chains_in (record s.lists { vacant = vacant })) (layouts_of s) s.waiting.items s.waiting.cap s.keep s.newest) (sym c.push.ensures)
     (front_sound s 0 c.args.place (vacated (slot_at (slots_of s) c.args.place)) c.requires.taken.taken.within (idle g d) (goes g d) c.vacate-set.new.self c.vacate-set.ensures.writes.slots (omega arith) refl (λ two. absurd (omega arith)) c.vacate-set.ensures.nexts)
 
 pub invariant_of-self-2-clause-counted : goal.invariant_of-self-2-clause-counted
 invariant_of-self-2-clause-counted g c =
     let s = c.args.self.now in
     let layout = ap (λ (s : Slot g.row.T.Denot). s.layout) (sym c.at-slot.ensures.slot) ∙ sym c.layout.ensures in
-    subst (AreCounted (slots_in c.vacate-set.new.self) s.kept.items) (sym c.leave.ensures)
-    (left_counted (slots_of s) (slots_in c.vacate-set.new.self) s.kept.items s.kept.items (users_in s.users) s.counted c.args.place _ c.requires.taken.taken.within c.vacate-set.ensures.writes.slots refl (λ n. refl) c.layout.result layout (subst (λ n. n < layouts_of s) layout (s.sound.known c.args.place c.requires.taken.taken.within).there) c.requires.taken.full refl)
+    subst (AreCounted (slots_in c.vacate-set.new.self) (layouts_of s) (removed_of s)) (sym c.leave.ensures)
+    (left_counted (slots_of s) (slots_in c.vacate-set.new.self) (layouts_of s) (removed_of s) (users_in s.users) s.counted c.args.place _ c.requires.taken.taken.within c.vacate-set.ensures.writes.slots c.layout.result layout (subst (λ n. n < layouts_of s) layout (s.sound.known c.args.place c.requires.taken.taken.within).there) c.requires.taken.full refl)

@@ -1,10 +1,10 @@
 use Rattle.std.proofs.Common.{◌≤◌, ◌+◌, inl, inr, sym, subst, ap, arith}
-use Rattle.std.proofs.lemmas.List.{get_or_past}
+use Rattle.std.proofs.lemmas.List.{get_or_past, length-map}
 use Rattle.descriptor_table.specs.Slots.{count, is_kept_of, shown}
-use Rattle.descriptor_table.specs.Tables.{Settings, slots_of}
+use Rattle.descriptor_table.specs.Tables.{Settings, chains_of, slots_of}
 use Rattle.descriptor_table.specs.declared.slot.Chain.{Chain}
 use Rattle.descriptor_table.proofs.Counting.{below_or, same_or}
-use Rattle.descriptor_table.proofs.Counts.{kept_counts}
+use Rattle.descriptor_table.proofs.Counts.{chain_counts}
 use Rattle.descriptor_table.proofs.Turning.{stays_more, trim_more, trim_others}
 use Rattle.descriptor_table.proofs.set_table.SetTable.trim.Goals as goal
 
@@ -37,5 +37,5 @@ returns-clause-few g c = λ n. elim (below_or n c.loop-layout.layout) [
   | inr le ↦ (
       let s = c.loop-layout.self in
       let end = ap (λ (s : Settings). s.layouts) c.loop-layout.invariant.stays.settings in
-      omega (arith, kept_counts s n, ap (λ (c : Chain). (shown c).count) (get_or_past s.kept.items n (record { first = 0; count = 0 }) (omega (arith, end, c.loop-layout-test.false, c.len-layout-end.ensures, c.args.self.now.kept.ok.0)))))
+      omega (arith, chain_counts s (n + 2), ap (λ (c : Chain). c.count) (get_or_past (chains_of s) (n + 2) (record { first = 0; count = 0 }) (omega (arith, length-map s.lists.kept.items shown, end, c.loop-layout-test.false, c.len-layout-end.ensures, c.args.self.now.lists.kept.ok.0)))))
 ]

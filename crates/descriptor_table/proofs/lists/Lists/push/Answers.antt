@@ -1,0 +1,9 @@
+use Rattle.std.proofs.Common.{◌+◌, ap, refl, set}
+use Rattle.descriptor_table.specs.declared.slot.Chain.{Chain}
+use Rattle.descriptor_table.proofs.Relisted.{regrouped}
+use Rattle.descriptor_table.proofs.lists.Lists.push.Goals as goal
+
+pub returns-in-KeptOf : goal.returns-in-KeptOf
+returns-in-KeptOf c =
+    let now : Chain → Chain = λ w. record { first = c.args.place; count = w.count + 1 } in
+    regrouped c.args.self.now _ c.args.group c.in-KeptOf.layout c.in-KeptOf.is c.requires.there c.index_mut.result.now c.index_mut.ensures.value now c.requires.few refl refl (ap (set c.args.self.now.kept.items c.in-KeptOf.layout) c.push-in-KeptOf.ensures)
