@@ -14,38 +14,29 @@ use Rattle.descriptor_table.proofs.Counting.{same_or}
 use Rattle.descriptor_table.proofs.Counts.{count_none}
 use Rattle.descriptor_table.proofs.Listed.{test_within}
 
--- the next of each place stays with a 0 at the end, and so does each list
-next_grown : (next : List ℕ) (q : ℕ) → get_or (next ++ 0 ∷ []) q 0 ≡ get_or next q 0
-next_grown [] zero = refl
-next_grown [] (suc q) = refl
-next_grown (x ∷ next) zero = refl
-next_grown (x ∷ next) (suc q) = next_grown next q
+-- what `f` says of each place stays, if it says of what comes at the end what it says of what is past the end
+grown : {X Y : Type 0} (f : X → Y) (xs : List X) (x d : X) (q : ℕ) → f x ≡ f d → f (get_or (xs ++ x ∷ []) q d) ≡ f (get_or xs q d)
+grown f [] x d zero same = same
+grown f [] x d (suc q) same = refl
+grown f (y ∷ xs) x d zero same = refl
+grown f (y ∷ xs) x d (suc q) same = grown f xs x d q same
 
+-- each list stays with a 0 at the end of the nexts
 walk_grown : (n : ℕ) (next : List ℕ) (first : ℕ) → walk n (next ++ 0 ∷ []) first ≡ walk n next first
 walk_grown zero next first = refl
-walk_grown (suc n) next first = ap (λ y. first ∷ walk n (next ++ 0 ∷ []) y) (next_grown next first) ∙ ap (λ l. first ∷ l) (walk_grown n next (get_or next first 0))
+walk_grown (suc n) next first = ap (λ y. first ∷ walk n (next ++ 0 ∷ []) y) (grown (λ x. x) next 0 0 first refl) ∙ ap (λ l. first ∷ l) (walk_grown n next (get_or next first 0))
 
 -- a list without slots at the end shows as the one past the end
 pub chain_grown : (chains : List Chain) (k : ℕ) → chain_at (chains ++ record { first = 0; count = 0 } ∷ []) k ≡ chain_at chains k
-chain_grown [] zero = refl
-chain_grown [] (suc k) = refl
-chain_grown (c ∷ chains) zero = refl
-chain_grown (c ∷ chains) (suc k) = chain_grown chains k
+chain_grown chains k = grown (λ c. c) chains _ _ k refl
 
 module _ {T : Type 0} where
-  -- what `f` says of each place stays, if it says of the slot at the end what it says of the slot past the end
-  grown : {X : Type 0} (f : Slot T → X) (slots : List (Slot T)) (s : Slot T) (q : ℕ) → f s ≡ f no_slot → f (slot_at (slots ++ s ∷ []) q) ≡ f (slot_at slots q)
-  grown f [] s zero same = same
-  grown f [] s (suc q) same = refl
-  grown f (x ∷ slots) s zero same = refl
-  grown f (x ∷ slots) s (suc q) same = grown f slots s q same
-
   -- the lists and the queue stay, as the slot that comes at the end is in none, and the slot past the end is in none
   pub linked_grown : (slots : List (Slot T)) (next : List ℕ) (chains : List Chain) (s : Slot T) → s.used ≡ Taken → AreLinked slots next chains → AreLinked (slots ++ s ∷ []) (next ++ 0 ∷ []) chains
-  linked_grown slots next chains s taken h k q = ap (times q) (walk_grown (chain_at chains k).count next (chain_at chains k).first) ∙ h k q ∙ ap (λ b. if b then 1 else 0) (sym (grown (is_in k) slots s q (taken_no_list s taken k)))
+  linked_grown slots next chains s taken h k q = ap (times q) (walk_grown (chain_at chains k).count next (chain_at chains k).first) ∙ h k q ∙ ap (λ b. if b then 1 else 0) (sym (grown (is_in k) slots s no_slot q (taken_no_list s taken k)))
 
   pub queue_grown : (slots : List (Slot T)) (l : List ℕ) (newest : ℕ) (s : Slot T) → s.used ≡ Taken → IsQueue slots l newest → IsQueue (slots ++ s ∷ []) l newest
-  queue_grown slots l newest s taken h = search (rules, taken_out, grown waits, grown (λ (s : Slot T). frame_of s.used))
+  queue_grown slots l newest s taken h = search (rules, taken_out, grown (waits {T = T}), grown (λ (s : Slot T). frame_of s.used))
 
   -- the layout of each slot has its list, also that of the new slot
   pub known_grown : (slots : List (Slot T)) (s : Slot T) (layouts : ℕ) → IsListed layouts s → HasLists slots layouts → length (slots ++ s ∷ []) ≡ length slots + 1 → HasLists (slots ++ s ∷ []) layouts

@@ -3,10 +3,11 @@
 -- `n` is how many turned.
 use Rattle.std.proofs.lemmas.Grind.{common_steps}
 use Rattle.std.proofs.Common.{◌≡◌, ◌≢◌, ℕ, zero, suc, ◌+◌, ◌<◌, ◌≤◌, ◌⊎◌, ◌==◌, ◌&&◌, Bool, true, false, List, [], ◌∷◌, length, get_or, set, take, is_some, inl, inr, Option, refl, sym, ap, subst, ◌∙◌, arith, rules}
-use Rattle.std.proofs.lemmas.List.{get_or_default, get_or-take, length-set, length-take-le}
+use Rattle.std.proofs.Math.Bool.{and-false}
+use Rattle.std.proofs.lemmas.List.{ext_get_or, get_or_default, get_or-take, length-set, length-take-le}
 use Rattle.std.proofs.lemmas.Bool.{true≢false}
 use Rattle.descriptor_table.specs.Sets.{AreHeldOnce, is_held}
-use Rattle.descriptor_table.specs.Slots.{slot_at}
+use Rattle.descriptor_table.specs.Slots.{no_slot, slot_at}
 use Rattle.descriptor_table.specs.Tables.{Becomes, CanBeHeld, HasTaken, IsBack, TurnEach, holds, is_held_use, place_at, used_for}
 use Rattle.descriptor_table.specs.declared.handle.SetHandle.{SetHandle}
 use Rattle.descriptor_table.specs.declared.slot.Use.{Use}
@@ -19,17 +20,10 @@ use Rattle.descriptor_table.proofs.Listed.{other_slots, slot_set, test_within, w
 held_use : (u : Use) → is_held_use u ≡ true → u ≡ Held
 held_use u e = grind (arith, common_steps)
 
-and_none : (b : Bool) → (b && false) ≡ false
-and_none x0 = grind (arith, common_steps)
-
 -- a place that a handle of the list has, or none has
 pub named_or : (n : ℕ) (place : ℕ → ℕ) (p : ℕ) → ((i : ℕ) × (i < n) × (place i ≡ p)) ⊎ ((i : ℕ) → i < n → place i ≢ p)
 named_or zero place p = inr (λ i lt. absurd (omega arith))
 named_or (suc n) place p = grind (arith, common_steps, same_or (place n) p, named_or n place p)
-
--- a handle that is in the list is the same, whatever is said of those past the end
-pub same_default : (l : List SetHandle) (i : ℕ) (d e : SetHandle) → i < length l → get_or l i d ≡ get_or l i e
-same_default = get_or_default
 
 -- handles with the same three numbers are the same
 pub handle_is : (a b : SetHandle) → a.manager ≡ b.manager → a.place ≡ b.place → a.generation ≡ b.generation → a ≡ b
@@ -54,17 +48,14 @@ module _ {T : Type 0} where
 
   -- a handle that passes the test `is_held` has all that
   pub held_is : (number : ℕ) (slots : List (Slot T)) (h : SetHandle) → is_held number slots h ≡ true → IsHeld number slots h
-  held_is number slots h e = grind (arith, common_steps, and_none, and_true, holds_used, test_within)
+  held_is number slots h e = grind (arith, common_steps, and-false, and_true, holds_used, test_within)
 
   pub used_same : (s : Slot T) (u : Use) → s.used ≡ u → used_for u s ≡ s
   used_same s u e = ap (λ v. used_for v s) (sym e)
 
   -- lists with the same slot at each place are the same
   pub all_same : (l m : List (Slot T)) → length l ≡ length m → ((p : ℕ) → slot_at l p ≡ slot_at m p) → l ≡ m
-  all_same [] [] long same = refl
-  all_same [] (y ∷ m) long same = absurd (omega arith)
-  all_same (x ∷ l) [] long same = absurd (omega arith)
-  all_same (x ∷ l) (y ∷ m) long same = ap (λ z. z ∷ l) (same 0) ∙ ap (λ k. y ∷ k) (all_same l m (omega arith) (λ p. same (suc p)))
+  all_same l m long same = ext_get_or no_slot l m long (λ p lt. same p)
 
   -- the slots of the first n handles became what the relation says; all others are as they were
   pub record TurnedFirst (handles : List SetHandle) (becomes : List (Slot T) → Slot T → Slot T → Type 0) (n : ℕ) (old now : List (Slot T)) : Type 0 where
@@ -144,7 +135,7 @@ module _ {T : Type 0} where
         let few = some.few in
         record {
           held = λ i d lt. some.held i d (omega arith);
-          once = λ i j d less lt same. some.apart i j less (omega arith) (ap (λ (h : SetHandle). h.place) (same_default handles i z d (omega arith) ∙ same ∙ same_default handles j d z lt));
+          once = λ i j d less lt same. some.apart i j less (omega arith) (ap (λ (h : SetHandle). h.place) (get_or_default handles i z d (omega arith) ∙ same ∙ get_or_default handles j d z lt));
         }
 
     pub turned_each : TurnEach handles becomes old now

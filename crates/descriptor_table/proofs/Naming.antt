@@ -2,13 +2,14 @@
 -- A handle is the *last* of its slot if no later one was given for the place; `shown` is what that one names.
 use Rattle.std.proofs.lemmas.Grind.{common_steps}
 use Rattle.std.proofs.Common.{arith, ◌≡◌, ◌≢◌, ℕ, ◌<◌, ◌==◌, ◌&&◌, nat_le, nat_lt, Bool, false, List, length, slice_index_or, if◌then◌else◌, Option, None, sym, ap, ◌∙◌, eqb-true, rules}
+use Rattle.std.proofs.lemmas.List.{get_or_default}
 use Rattle.descriptor_table.specs.Sets.{AreHeldOnce, LoseNames, is_last, sets_of}
 use Rattle.descriptor_table.specs.Slots.{is_live, slot_at}
 use Rattle.descriptor_table.specs.Tables.{place_at}
 use Rattle.descriptor_table.specs.declared.handle.SetHandle.{SetHandle}
 use Rattle.descriptor_table.specs.Slots.{Slot}
 use Rattle.descriptor_table.proofs.Chains.{and_true}
-use Rattle.descriptor_table.proofs.Holding.{handle_is, held_is, named_or, same_default}
+use Rattle.descriptor_table.proofs.Holding.{handle_is, held_is, named_or}
 
 if_both : {T : Type 0} (a b : Bool) (x : Option T) → (if a && b then x else None) ≡ (if a then (if b then x else None) else None)
 if_both x0 b x = grind (arith, common_steps)
@@ -53,9 +54,6 @@ module _ {T : Type 0} where
     abbrev zero_handle : SetHandle
     zero_handle = record { manager = 0; place = 0; generation = 0 }
 
-    abbrev handle_at : ℕ → SetHandle
-    handle_at i = slice_index_or handles i zero_handle
-
     removed : (p : ℕ) → (slot_at new p).generation ≡ (slot_at old p).generation
     removed p = search (rules, named_or)
 
@@ -69,7 +67,7 @@ module _ {T : Type 0} where
     -- the handles name nothing, and each other one what it named
     pub names_lost : LoseNames handles (sets_of number frame opened old) (sets_of number frame opened new)
     names_lost = record {
-      gone = λ i d lt. if_neither _ _ _ (ap (λ (h : SetHandle). is_live frame opened (slot_at new h.place).used) (same_default handles i d zero_handle lt) ∙ quiet i lt);
+      gone = λ i d lt. if_neither _ _ _ (ap (λ (h : SetHandle). is_live frame opened (slot_at new h.place).used) (get_or_default handles i d zero_handle lt) ∙ quiet i lt);
       others = λ other apart. search (rules, removed, if_not, named_or, not_last);
       given = λ h. ap (λ g. (h.manager == number) && (nat_lt 0 h.generation && nat_le h.generation g)) (removed h.place);
     }

@@ -1,8 +1,11 @@
 -- The users of layouts: a number is free once, so the free ones have room; and users are the sets that there are, when a slot changes.
 use Rattle.std.proofs.lemmas.Grind.{common_steps}
-use Rattle.std.proofs.Common.{◌≡◌, ◌≢◌, ℕ, zero, suc, ◌+◌, ◌-◌, ◌<◌, ◌≤◌, Bool, true, false, List, [], ◌∷◌, ◌++◌, is_some, inl, inr, refl, ◌∙◌, length, set, sym, ap, arith, eq-eqb, ne_eqb, ◌&&◌, ◌==◌, if◌then◌else◌}
-use Rattle.std.proofs.lemmas.Bool.{and_right}
+use Rattle.std.proofs.Common.{◌≡◌, ◌≢◌, ℕ, zero, suc, ◌+◌, ◌-◌, ◌<◌, ◌≤◌, Bool, true, false, List, [], ◌∷◌, ◌++◌, is_some, inl, inr, refl, ◌∙◌, length, set, sym, ap, arith, eq-eqb, ne_eqb, ◌&&◌, ◌==◌, nat_eq, subst, if◌then◌else◌}
+use Rattle.std.proofs.lemmas.Bool.{and_right, false≢true}
 use Rattle.std.proofs.lemmas.List.{get_or-set_other, get_or-set_same, get_or_past, get_or_append_left, get_or_push, length-set, length_push}
+use Rattle.std.proofs.lemmas.Map.Keys.{IsDistinct-cons}
+use Rattle.std.proofs.lemmas.Map.Steps.{length-le_from_distinct_below}
+use Rattle.std.specs.List.{AllByRecursion, IsDistinct, list_any}
 use Rattle.descriptor_table.specs.Places.{AreFree, times, users_at}
 use Rattle.descriptor_table.specs.Lists.{Relisted, layouts_in, removed_in}
 use Rattle.descriptor_table.specs.Slots.{AreCounted, Slot, no_slot, count, is_removed, is_set_of, slot_at}
@@ -16,50 +19,30 @@ use Rattle.descriptor_table.proofs.Entries.{in_place}
 use Rattle.descriptor_table.proofs.Growing.{count_grown}
 use Rattle.descriptor_table.proofs.Counts.{bit, count_less, count_set, none_count, same_count, some_count}
 
--- how many places of a list are below this one
-abbrev below : ℕ → List ℕ → ℕ
-below zero l = 0
-below (suc n) l = times n l + below n l
-
-below_none : (n : ℕ) → below n [] ≡ 0
-below_none zero = omega arith
-below_none (suc n) = let h = below_none n in omega arith
-
-below_past : (n q : ℕ) (l : List ℕ) → n ≤ q → below n (q ∷ l) ≡ below n l
-below_past zero q l le = omega arith
-below_past (suc n) q l le = omega (arith, times_there n q l (λ e. omega arith), below_past n q l (omega arith))
-
-below_more : (n q : ℕ) (l : List ℕ) → q < n → below n (q ∷ l) ≡ below n l + 1
-below_more zero q l lt = absurd (omega arith)
-below_more (suc n) q l lt = elim (same_or n q) [
-  | inl e ↦ grind (arith, common_steps, times_here, below_past)
-  | inr ne ↦ omega (arith, times_there n q l ne, below_more n q l (omega arith))
+-- a number that isn't in a list is none of it
+apart : (p : ℕ) (l : List ℕ) → times p l ≡ 0 → AllByRecursion (λ q. (p == q) ≡ false) l
+apart p [] none = tt
+apart p (q ∷ l) none = elim (same_or p q) [
+  | inl e ↦ absurd (omega (arith, subst (λ q. times p (q ∷ l) ≡ 0) (sym e) none, times_here p l))
+  | inr ne ↦ (ne_eqb p q ne, apart p l (omega (arith, times_there p q l ne)))
 ]
 
-below_all : (n : ℕ) (l : List ℕ) → ((p : ℕ) → n ≤ p → times p l ≡ 0) → below n l ≡ length l
-below_all n [] none = below_none n
-below_all n (q ∷ l) none = elim (below_or q n) [
-  | inl lt ↦ omega (arith, below_more n q l lt, below_all n l (λ p le. omega (arith, times_there p q l (λ e. omega arith), none p le)))
-  | inr le ↦ absurd (omega (arith, times_here q l, none q le))
-]
+-- numbers that are there once are distinct
+distinct : (l : List ℕ) → ((p : ℕ) → times p l ≤ 1) → IsDistinct nat_eq l
+unfolding IsDistinct
+distinct [] once = tt
+distinct (q ∷ l) once = (apart q l (omega (arith, times_here q l, once q)), distinct l (λ p. grind (arith, common_steps, once p)))
 
-module _ (l : List ℕ) (once : (p : ℕ) → times p l ≤ 1) where
-  below_few : (n : ℕ) → below n l ≤ n
-  below_few zero = omega arith
-  below_few (suc n) = omega (arith, once n, below_few n)
-
-  -- one place fewer if one is not there
-  below_less : (n m : ℕ) → m < n → times m l ≡ 0 → below n l + 1 ≤ n
-  below_less zero m lt out = absurd (omega arith)
-  below_less (suc n) m lt out = elim (same_or m n) [
-    | inl e ↦ grind (arith, common_steps, below_few)
-    | inr ne ↦ omega (arith, once n, below_less n m (omega arith) out)
-  ]
+-- one that is found is there
+found : (p : ℕ) (l : List ℕ) → list_any (nat_eq p) l ≡ true → times p l ≢ 0
+found p [] is none = false≢true is
+found p (q ∷ l) is none = grind (arith, common_steps, found p l)
 
 -- while a number has users there is room for one more free number
 pub free_room : (free counts : List ℕ) → AreFree free counts → (m : ℕ) → m < length counts → users_at counts m ≢ 0 → length free + 1 ≤ length counts
 free_room free counts h m lt some =
-    omega (arith, below_all (length counts) free (λ p le. grind (arith, common_steps, h p, get_or_past)), below_less free (λ p. grind (arith, common_steps, h p)) (length counts) m lt (grind (arith, common_steps, h m)))
+    omega (arith, length-le_from_distinct_below (m ∷ free) (length counts) (IsDistinct-cons nat_eq m free (apart m free (grind (arith, common_steps, h m))) (distinct free (λ p. grind (arith, common_steps, h p))))
+    (λ q is. grind (arith, common_steps, h q, found q (m ∷ free) is, below_or q (length counts), get_or_past)))
 
 -- a number that is put last is in the list once more
 pub times_last : (p q : ℕ) (l : List ℕ) → times p (l ++ q ∷ []) ≡ times p (q ∷ l)
@@ -67,11 +50,7 @@ times_last p q [] = refl
 times_last p q (x ∷ l) = let h = times_last p q l in omega arith
 
 module _ (free counts : List ℕ) (h : AreFree free counts) (n : ℕ) (lt : n < length counts) where
-  -- a number that has users has others
-  pub free_same : (x : ℕ) → users_at counts n ≢ 0 → x ≢ 0 → AreFree free (set counts n x)
-  free_same x was now p = grind (arith, common_steps, h p, same_or p n, get_or-set_same, get_or-set_other)
-
-  -- it has none any more
+  -- a number that had users has none any more
   pub free_more : users_at counts n ≢ 0 → AreFree (free ++ n ∷ []) (set counts n 0)
   free_more was p = grind (arith, common_steps, h p, same_or p n, get_or-set_same, get_or-set_other, times_last p n free, times_here, times_there)
 

@@ -4,15 +4,12 @@ use Rattle.std.proofs.Common.{◌≡◌, ◌≢◌, ℕ, zero, suc, refl, ◌+�
 use Rattle.std.proofs.lemmas.List.{get_or_default, get_or-set_other, get_or-set_same, get_or_past, length-map, length-set, map-set}
 use Rattle.descriptor_table.specs.Giving.{list_of}
 use Rattle.descriptor_table.specs.Lists.{HasList, Relisted, chains_in, layouts_in, removed_in}
-use Rattle.descriptor_table.specs.Slots.{AreSound, chain_at, is_removed, shown}
-use Rattle.descriptor_table.specs.Tables.{Settings}
+use Rattle.descriptor_table.specs.Slots.{chain_at, is_removed, shown}
 use Rattle.descriptor_table.specs.declared.giving.Group.{Group}
 use Rattle.descriptor_table.specs.declared.giving.Group.TheVariants.{Going, KeptOf}
 use Rattle.descriptor_table.specs.declared.lists.Lists.{Lists}
 use Rattle.descriptor_table.specs.declared.slot.Chain.{Chain}
-use Rattle.descriptor_table.specs.declared.slot_list.SlotList.{SlotList}
 use Rattle.descriptor_table.proofs.Counting.{below_or, same_or}
-use Rattle.descriptor_table.proofs.Entries.{in_place}
 
 -- a list that isn't that of a removed layout shows as it is
 shown_same : (c : Chain) → is_removed c ≡ false → shown c ≡ c
@@ -36,10 +33,6 @@ module _ (l : Lists) (layout : ℕ) where
   pub list_is : removed_in l layout ≡ false → chain_at (chains_in l) (layout + 2) ≡ chain_at l.kept.items layout
   list_is there = chain_was ∙ shown_same (chain_at l.kept.items layout) there
 
-  -- a list that shows slots
-  pub list_there : (chain_at (chains_in l) (layout + 2)).count ≢ 0 → (layout < layouts_in l) × (removed_in l layout ≡ false)
-  list_there some = grind (arith, common_steps, chain_was, below_or layout (layouts_in l), get_or_past)
-
   -- it became another one
   module _ (c : Chain) where
     pub chain_written : l.vacant ∷ l.going ∷ map shown (set l.kept.items layout c) ≡ set (chains_in l) (layout + 2) (shown c)
@@ -60,7 +53,7 @@ module _ (l : Lists) (layout : ℕ) where
 -- a group whose list has slots has a list
 pub group_there : (l : Lists) (group : Group) → (chain_at (chains_in l) (list_of group)).count ≢ 0 → HasList group l
 group_there l Going some = tt
-group_there l (KeptOf layout) some = list_there l layout some
+group_there l (KeptOf layout) some = grind (arith, common_steps, chain_was l layout, below_or layout (layouts_in l), get_or_past)
 
 -- the list of a group that was read became another one
 pub regrouped : (l new : Lists) (group : Group) (layout : ℕ) → group ≡ KeptOf layout → HasList group l → (c : Chain) → c ≡ get_or l.kept.items layout c → (f : Chain → Chain) → (f (chain_at (chains_in l) (list_of group))).count < 4294967295 → new.vacant ≡ l.vacant → new.going ≡ l.going → new.kept.items ≡ set l.kept.items layout (f c) → Relisted (list_of group) (f (chain_at (chains_in l) (list_of group))) l new
@@ -70,18 +63,7 @@ regrouped l new group layout is has c was f few vacant going kept =
     subst (λ g. Relisted (list_of g) (f (chain_at (chains_in l) (list_of g))) l new) (sym is)
     (subst (λ x. Relisted (layout + 2) (f x) l new) (sym same) (relisted l layout (f c) there (subst (λ x. (f x).count < 4294967295) same (subst (λ g. (f (chain_at (chains_in l) (list_of g))).count < 4294967295) is few)) new vacant going kept))
 
-abbrev settings_with : ℕ → ℕ → Lists → Settings
-settings_with number keep l = record { number = number; layouts = layouts_in l; removed = removed_in l; keep = keep }
-
--- and settings are as they were
-pub settings_stay : (number keep k : ℕ) (c : Chain) (old new : Lists) → Relisted k c old new → settings_with number keep new ≡ settings_with number keep old
-settings_stay number keep k c old new r = λ i. record { number = number; layouts = r.layouts i; removed = r.removed i; keep = keep }
-
 -- each group that has a list has one of these
 pub group_within : (l : Lists) (group : Group) → HasList group l → list_of group < length (chains_in l)
 group_within l Going has = omega arith
 group_within l (KeptOf layout) has = omega (arith, length-map l.kept.items shown, has.0)
-
--- what a table says of its lists is said of the new ones
-pub relisted_sound : {T : Type 0} (l : SlotList T) (k : ℕ) (c : Chain) (old new : Lists) (waiting : List ℕ) (room keep newest : ℕ) → Relisted k c old new → AreSound l (set (chains_in old) k c) (layouts_in old) waiting room keep newest → AreSound l (chains_in new) (layouts_in new) waiting room keep newest
-relisted_sound l k c old new waiting room keep newest r = in_place (λ chains layouts. AreSound l chains layouts waiting room keep newest) _ _ _ _ r.chains r.layouts

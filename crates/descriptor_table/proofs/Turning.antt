@@ -2,14 +2,14 @@
 -- `old` are the slots before a loop, `now` those before a step of it, `new` those after; `Turning` is the loop's invariant, and `Turns`
 -- what it leaves at its end. A set that is freed *settles*: it is kept, or goes. `o` is a slot before that, `n` the same slot after.
 use Rattle.std.proofs.lemmas.Grind.{common_steps}
-use Rattle.std.proofs.Common.{◌≡◌, ◌≢◌, ℕ, zero, suc, ◌+◌, ◌<◌, ◌≤◌, ◌⊎◌, ◌&&◌, nat_lt, Bool, true, false, if◌then◌else◌, List, [], ◌∷◌, length, set, eq-eqb, ne_eqb, is_some, inl, inr, refl, sym, ap, ◌∙◌, arith, nat_le, rules, not}
+use Rattle.std.proofs.Common.{◌≡◌, ◌≢◌, ℕ, zero, suc, ◌+◌, ◌<◌, ◌≤◌, ◌⊎◌, ◌&&◌, Bool, true, false, if◌then◌else◌, List, [], ◌∷◌, length, set, ne_eqb, is_some, inl, refl, sym, ap, ◌∙◌, arith, nat_le, rules}
 use Rattle.std.proofs.lemmas.List.{length-set, set-set}
-use Rattle.std.proofs.lemmas.Bool.{false≢true, ltb-false, true≢false}
+use Rattle.std.proofs.lemmas.Bool.{ltb-false, true≢false}
 use Rattle.descriptor_table.specs.Slots.{IsNowhere, Slot, count, is_due, is_in, slot_at, waits_for}
-use Rattle.descriptor_table.specs.Tables.{Settings, CanBeHeld, IsBack, MayBecome, Picks, Stays, Turns, removed_of, holds, is_held_use, is_kept, next_use, used_for, Becomes, settings_of}
+use Rattle.descriptor_table.specs.Tables.{Settings, CanBeHeld, IsBack, MayBecome, Picks, Stays, Turns, removed_of, holds, is_kept, next_use, stays, used_for, Becomes, settings_of}
 use Rattle.descriptor_table.specs.declared.set_table.SetTable.{SetTable}
 use Rattle.descriptor_table.specs.declared.slot.Use.{Use}
-use Rattle.descriptor_table.specs.declared.slot.Use.TheVariants.{Held, Going, Taken}
+use Rattle.descriptor_table.specs.declared.slot.Use.TheVariants.{Going, Kept, Taken}
 use Rattle.descriptor_table.proofs.Chains.{and_true, lists_apart, nowhere_out}
 use Rattle.descriptor_table.proofs.Counting.{same_or}
 use Rattle.descriptor_table.proofs.Counts.{bit, count_set, same_count}
@@ -55,22 +55,17 @@ module _ {T : Type 0} where
     pub settled_here : IsBack (used_for Going) removed max new (slot_at now p) (used_for (next_use removed max mid p) (slot_at now p))
     settled_here = search (rules, and_true, count_set, ltb-false, nowhere_out, same_count, settled_set, slot_set)
 
-  -- a set that settled waits no longer, and isn't held
+  -- a set that settled waits no longer
   pub settled_not_due : (removed : ℕ → Bool) (frame max : ℕ) (l : List (Slot T)) (o n : Slot T) → IsBack (used_for Going) removed max l o n → is_due frame n ≡ false
   settled_not_due removed frame max l o n x6 = grind (arith, common_steps)
 
-  pub settled_not_held : (removed : ℕ → Bool) (max : ℕ) (l : List (Slot T)) (o n : Slot T) → IsBack (used_for Going) removed max l o n → n.used ≢ Held
-  settled_not_held removed max l o n x5 held = search (rules, false≢true)
+  -- a set was kept
+  abbrev pub IsKept : (ℕ → Bool) → List (Slot T) → Slot T → Slot T → Type 0
+  IsKept removed l o n = (n ≡ used_for Kept o) × (stays removed o ≡ true)
 
-  -- only its use changed, and it can be held again
-  pub back_only : (removed : ℕ → Bool) (max : ℕ) (l : List (Slot T)) (o x : Slot T) → holds o ≡ true → IsBack (used_for Going) removed max l o x → (x ≡ used_for x.used o) × CanBeHeld x
-  back_only removed max l o x held (inl kept) =
-      let full = (and_true (is_held_use o.used) (is_some o.set) held).1 in
-      let young = (and_true (nat_lt o.generation 4294967295) (not o.is_aged) (and_true (nat_lt o.generation 4294967295 && not o.is_aged) (not (removed o.layout)) kept.1).0).0 in (
-        kept.0 ∙ ap (λ u. used_for u o) (sym (ap (λ (s : Slot T). s.used) kept.0)),
-        (ap (λ (s : Slot T). is_some s.set) kept.0 ∙ full, inr (o.layout + 2, λ e. omega arith, ap (is_in (o.layout + 2)) kept.0 ∙ ap (λ b. b && (nat_lt o.generation 4294967295 && is_some o.set)) (eq-eqb (o.layout + 2) (o.layout + 2) refl) ∙ ap (λ b. b && is_some o.set) young ∙ full)),
-      )
-  back_only removed max l o x held (inr goes) = (let full = (and_true (is_held_use o.used) (is_some o.set) held).1 in (goes.0 ∙ ap (λ u. used_for u o) (sym (ap (λ (s : Slot T). s.used) goes.0)), (ap (λ (s : Slot T). is_some s.set) goes.0 ∙ full, inr (1, λ e. omega arith, ap (is_in 1) goes.0 ∙ full))))
+  -- so only its use changed, and it can be held again
+  pub kept_only : (removed : ℕ → Bool) (l : List (Slot T)) (o x : Slot T) → holds o ≡ true → IsKept removed l o x → (x ≡ used_for x.used o) × CanBeHeld x
+  kept_only removed l o x held kept = grind (arith, common_steps)
 
   -- a set that waits, or that a call has, is in no list
   pub due_not_listed : (frame : ℕ) (s : Slot T) → is_due frame s ≡ true → (k : ℕ) → is_in k s ≡ false

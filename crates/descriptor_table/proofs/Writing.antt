@@ -1,7 +1,6 @@
 -- A slot came to a list: for the methods of `SetTable`. `t` is the table before.
-use Rattle.std.proofs.Common.{◌≡◌, ◌≢◌, ℕ, ◌+◌, ◌<◌, ◌≤◌, true, List, get_or, length, set, refl, sym, ap, subst, ◌∙◌, arith}
+use Rattle.std.proofs.Common.{◌≡◌, ℕ, ◌+◌, ◌<◌, ◌≤◌, true, List, get_or, length, set, refl, sym, ap, subst, ◌∙◌, arith}
 use Rattle.std.specs.VecDeque.{deque_capacity}
-use Rattle.descriptor_table.specs.Giving.{list_of}
 use Rattle.descriptor_table.specs.Slots.{AreLinked, AreSound, IsNowhere, Slot, chain_at, is_in, nexts_in, slot_at, slots_in}
 use Rattle.descriptor_table.specs.Lists.{HasList}
 use Rattle.descriptor_table.specs.Tables.{Settings, chains_of, layouts_of, settings_of, slots_of}
@@ -11,11 +10,6 @@ use Rattle.descriptor_table.specs.declared.giving.Group.TheVariants.{Going, Kept
 use Rattle.descriptor_table.specs.declared.slot_list.SlotList.{SlotList}
 use Rattle.descriptor_table.proofs.Chains.{after_linked, held_nowhere, link_linked, link_more}
 use Rattle.descriptor_table.proofs.Sound.{link_sound, listed, same_long}
-
--- no group has the list of vacant slots
-pub list_some : (group : Group) → list_of group ≢ 0
-list_some Going e = omega arith
-list_some (KeptOf n) e = omega arith
 
 -- with settings as they were a group has a list as before
 pub has_still : {T : Type 0} (a b : SetTable T) → settings_of b ≡ settings_of a → (group : Group) → HasList group a.lists → HasList group b.lists

@@ -225,9 +225,9 @@ module _ {T : Type 0} where
   abbrev pub GivesAny : (Slot T → Bool) → Option T → Slots T → Slots T → Type 0
   GivesAny test result old new = MatchOption result (PicksNone test old new) (λ x. (p : ℕ) × Picks test vacated p old new × ((slot_at old p).set ≡ Some x))
 
-  -- a slot has a set that is held, that a call has, or that is kept or goes
+  -- a slot has a set that is held, that a call has, or that is kept
   abbrev pub CanBeHeld : Slot T → Type 0
-  CanBeHeld s = (is_some s.set ≡ true) × (IsNowhere s.used ⊎ ((k : ℕ) × (k ≢ 0) × (is_in k s ≡ true)))
+  CanBeHeld s = (is_some s.set ≡ true) × (IsNowhere s.used ⊎ (is_kept s ≡ true))
 
   -- the slots of the handles became what the relation says, given the new slots. All others are as they were
   pub record TurnEach (handles : List SetHandle) (becomes : Slots T → Slot T → Slot T → Type 0) (old new : Slots T) : Type 0 where

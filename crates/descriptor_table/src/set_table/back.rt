@@ -14,7 +14,7 @@ impl<T> SetTable<T> {
     ghost use Rattle.descriptor_table.specs.Tables.{IsBack, KeepsUpTo, MayBecome};
     ghost use Rattle.descriptor_table.specs.Tables.{Stays, TurnEach, Turns};
     ghost use Rattle.descriptor_table.specs.Tables.{holds, is_kept, removed_of};
-    ghost use Rattle.descriptor_table.specs.Tables.{may_stay, next_use, place_at};
+    ghost use Rattle.descriptor_table.specs.Tables.{may_stay, next_use, place_at, stays};
     ghost use Rattle.descriptor_table.specs.Tables.{slots_of, used_for};
 
     /// The layout under which a set that is freed is kept, if it may be.
@@ -78,9 +78,10 @@ impl<T> SetTable<T> {
         ensures held { IsTrue result → (N.fit name.now (slot_at (slots_of self.old)
             (N.handle_of name.now).place).set && is_held self.old.number (slots_of self.old)
             (N.handle_of name.now)) ≡ true }
-        ensures keeps { IsTrue result → At (N.handle_of name.now).place (used_for (next_use
-            (removed_of self.old) self.old.keep (slots_of self.old)
-            (N.handle_of name.now).place)) (slots_of self.old) (slots_of self.new) }
+        ensures keeps { IsTrue result → At (N.handle_of name.now).place (used_for Use.Kept)
+            (slots_of self.old) (slots_of self.new) }
+        ensures may { IsTrue result → stays (removed_of self.old) (slot_at (slots_of self.old)
+            (N.handle_of name.now).place) ≡ true }
         ensures none { IsFalse result → slots_of self.new ≡ slots_of self.old }
         ensures stays { Stays self.old self.new }
     {

@@ -8,8 +8,7 @@ use crate::slot::Use;
 
 impl<T> SetTable<T> {
     ghost use Rattle.descriptor_table.specs.Sets.{AllFit, AreHeldOnce};
-    ghost use Rattle.descriptor_table.specs.Giving.{is_of};
-    ghost use Rattle.descriptor_table.specs.Slots.{IsNowhere, slot_at};
+    ghost use Rattle.descriptor_table.specs.Slots.{IsNowhere, is_kept_of, slot_at};
     ghost use Rattle.descriptor_table.specs.Tables.{At, Becomes, CanBeHeld, Changes, Stays, TurnEach};
     ghost use Rattle.descriptor_table.specs.Tables.{place_at, slots_of, used_for};
 
@@ -27,6 +26,7 @@ impl<T> SetTable<T> {
 
     /// Takes the held sets of `names`, all or none. If a name has no held set, or is in the list twice,
     /// it takes none and returns `false`.
+    #[inline(never)]
     pub fn take_each<N: SetName<T>>(&mut self, names: &[N]) -> bool
         ensures once { IsTrue result ↔ (AreHeldOnce self.old.number (slots_of self.old)
             (N.handles_of names.now) × AllFit N.handle_of N.fit (slots_of self.old) names.now) }
@@ -69,29 +69,28 @@ impl<T> SetTable<T> {
         let slot = self.slots.at(place);
         match slot.used() {
             Use::Kept => {
-                let group = Group::KeptOf(slot.layout() as usize);
-                self.unlink(group, Use::Kept, place);
+                let layout = slot.layout() as usize;
+                self.unlink(layout, place);
             }
-            Use::Going => self.unlink(Group::Going, Use::Going, place),
-            Use::Held | Use::InFrame(_) | Use::Waits(_) | Use::Taken | Use::Vacant => {}
+            Use::Held | Use::InFrame(_) | Use::Waits(_) | Use::Going | Use::Taken | Use::Vacant =>
+                {}
         }
         self.assign(place, Use::Held);
     }
 
-    /// Takes a slot out of its list of sets. That of the set that came last is the first of the list. Others
-    /// that are before it come back.
-    fn unlink(&mut self, group: Group, used: Use, place: usize)
-        requires listed { is_of group (slot_at (slots_of self.old) place) ≡ true }
-        requires used { (slot_at (slots_of self.old) place).used ≡ used }
+    /// Takes a kept set out of its layout's list. The set that came last is the first of the list. Others that
+    /// are before it come back.
+    fn unlink(&mut self, layout: usize, place: usize)
+        requires { is_kept_of layout (slot_at (slots_of self.old) place) ≡ true }
         ensures { Changes (At place (used_for Use.Taken)) self.old self.new }
     {
-        match self.pick(group) {
+        match self.pick(Group::KeptOf(layout)) {
             Some(first) => {
                 if first == place {
                     return;
                 }
-                self.unlink(group, used, place);
-                self.link(group, first, used);
+                self.unlink(layout, place);
+                self.link(Group::KeptOf(layout), first, Use::Kept);
             }
             None => unreachable!(),
         }

@@ -16,6 +16,7 @@ impl<T> SetTable<T> {
 
     /// Takes the held sets of `names`, all or none. If a name has no held set, or is in the list twice,
     /// it takes none and returns `false`.
+    #[inline(never)]
     pub fn take_each<N: SetName<T>>(&mut self, names: &[N]) -> bool
     {
         for index in 0..names.len() {
@@ -44,26 +45,26 @@ impl<T> SetTable<T> {
         let slot = self.slots.at(place);
         match slot.used() {
             Use::Kept => {
-                let group = Group::KeptOf(slot.layout() as usize);
-                self.unlink(group, Use::Kept, place);
+                let layout = slot.layout() as usize;
+                self.unlink(layout, place);
             }
-            Use::Going => self.unlink(Group::Going, Use::Going, place),
-            Use::Held | Use::InFrame(_) | Use::Waits(_) | Use::Taken | Use::Vacant => {}
+            Use::Held | Use::InFrame(_) | Use::Waits(_) | Use::Going | Use::Taken | Use::Vacant =>
+                {}
         }
         self.assign(place, Use::Held);
     }
 
-    /// Takes a slot out of its list of sets. That of the set that came last is the first of the list. Others
-    /// that are before it come back.
-    fn unlink(&mut self, group: Group, used: Use, place: usize)
+    /// Takes a kept set out of its layout's list. The set that came last is the first of the list. Others that
+    /// are before it come back.
+    fn unlink(&mut self, layout: usize, place: usize)
     {
-        match self.pick(group) {
+        match self.pick(Group::KeptOf(layout)) {
             Some(first) => {
                 if first == place {
                     return;
                 }
-                self.unlink(group, used, place);
-                self.link(group, first, used);
+                self.unlink(layout, place);
+                self.link(Group::KeptOf(layout), first, Use::Kept);
             }
             None => unreachable!(),
         }

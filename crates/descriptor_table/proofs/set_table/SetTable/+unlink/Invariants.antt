@@ -1,8 +1,7 @@
-use Rattle.descriptor_table.specs.Giving.{is_of}
-use Rattle.descriptor_table.specs.Slots.{count}
+use Rattle.descriptor_table.specs.Slots.{count, is_kept_of}
 use Rattle.descriptor_table.specs.Tables.{slots_of}
 use Rattle.descriptor_table.proofs.set_table.SetTable.+unlink.Given as goal
 
--- how many sets are in the group
+-- how many sets of the layout are kept
 abbrev pub decreases-unlink : goal.decreases-unlink
-decreases-unlink g l = count (is_of l.group) (slots_of l.self.now)
+decreases-unlink g l = count (is_kept_of l.layout) (slots_of l.self.now)

@@ -1,15 +1,15 @@
 use Rattle.std.proofs.Common.{◌≡◌, ◌+◌, ◌<◌, true, length, refl, sym, rules, arith}
 use Rattle.std.specs.VecDeque.{deque_capacity}
-use Rattle.descriptor_table.specs.Slots.{chain_at, is_kept_of, slot_at, slots_in}
+use Rattle.descriptor_table.specs.Slots.{AreSound, chain_at, is_kept_of, slot_at, slots_in}
 use Rattle.descriptor_table.specs.Tables.{chains_of, slots_of}
 use Rattle.descriptor_table.specs.declared.giving.Group.TheVariants.{KeptOf}
 use Rattle.descriptor_table.specs.declared.slot.Chain.{Chain}
 use Rattle.descriptor_table.proofs.Chains.{listed_out}
 use Rattle.descriptor_table.proofs.Counts.{chain_short, group_has}
+use Rattle.descriptor_table.proofs.Entries.{in_place}
 use Rattle.descriptor_table.proofs.Heads.{first, left_sound, more, still}
 use Rattle.descriptor_table.proofs.Listed.{slot_set}
 use Rattle.descriptor_table.proofs.Numbers.{list_counted}
-use Rattle.descriptor_table.proofs.Relisted.{relisted_sound, settings_stay}
 use Rattle.descriptor_table.proofs.Renewing.{kept_is}
 use Rattle.descriptor_table.proofs.set_table.SetTable.hold_kept.Goals.{After-first-place}
 use Rattle.descriptor_table.proofs.set_table.SetTable.hold_kept.Goals as goal
@@ -66,7 +66,7 @@ invariant_of-self-clause-sound g c =
     let a = (goal.at.invariant_of-self-clause-sound g c).After-first-place in
     let p = at g a in
     let full = (kept_is k (slot_at (slots_of s) c.first-place.result) (omega arith) p.1).1 in
-    relisted_sound c.renew-generation.new.self k _ s.lists c.pop.new.self c.enqueue.new.waiting.items (deque_capacity c.enqueue.new.waiting) s.keep c.enqueue.new.newest c.pop.ensures
+    in_place (λ chains layouts. AreSound c.renew-generation.new.self chains layouts c.enqueue.new.waiting.items (deque_capacity c.enqueue.new.waiting) s.keep c.enqueue.new.newest) _ _ _ _ c.pop.ensures.chains c.pop.ensures.layouts
     (left_sound s k c.requires.some (list g a) (was g a) c.renew-generation.new.self _ c.renew-generation.ensures.writes.slots c.at.ensures.next c.renew-generation.ensures.nexts c.requires.live (s.sound.known c.first-place.result p.0).there full c.enqueue.ensures.capacity c.enqueue.ensures.queue)
 
 pub invariant_of-self-clause-counted : goal.invariant_of-self-clause-counted
@@ -79,4 +79,4 @@ pub returns-clause-fits : goal.returns-clause-fits
 returns-clause-fits g c = search (rules, slot_set, at g (goal.at.returns-clause-fits g c).After-first-place)
 
 pub returns-clause-stays : goal.returns-clause-stays
-returns-clause-stays g c = let s = c.args.self.now in record { settings = settings_stay s.number s.keep (c.args.layout + 2) _ s.lists c.pop.new.self c.pop.ensures; space = c.renew-generation.ensures.writes.space; waiting = c.enqueue.ensures.capacity }
+returns-clause-stays g c = let s = c.args.self.now in record { settings = λ i. record { number = s.number; layouts = c.pop.ensures.layouts i; removed = c.pop.ensures.removed i; keep = s.keep }; space = c.renew-generation.ensures.writes.space; waiting = c.enqueue.ensures.capacity }

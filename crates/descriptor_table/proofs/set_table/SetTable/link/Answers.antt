@@ -1,10 +1,11 @@
 use Rattle.std.proofs.Common.{◌∙◌, refl, ap, set, arith}
 use Rattle.descriptor_table.specs.Giving.{list_of}
-use Rattle.descriptor_table.specs.Slots.{nexts_in, slot_at, slots_in}
+use Rattle.descriptor_table.specs.Slots.{AreSound, nexts_in, slot_at, slots_in}
 use Rattle.descriptor_table.specs.Tables.{slots_of, used_for}
 use Rattle.descriptor_table.proofs.Counts.{chain_counts}
+use Rattle.descriptor_table.proofs.Entries.{in_place}
 use Rattle.descriptor_table.proofs.Numbers.{list_counted}
-use Rattle.descriptor_table.proofs.Relisted.{group_within, relisted_sound, settings_stay}
+use Rattle.descriptor_table.proofs.Relisted.{group_within}
 use Rattle.descriptor_table.proofs.Writing.{few_more, front_sound}
 use Rattle.descriptor_table.proofs.set_table.SetTable.link.Goals as goal
 
@@ -15,7 +16,7 @@ pub invariant_of-self-clause-sound : goal.invariant_of-self-clause-sound
 invariant_of-self-clause-sound g c =
     let s = c.args.self.now in
     let k = list_of c.args.group in
-    relisted_sound c.link.new.self k _ s.lists c.push.new.self s.waiting.items s.waiting.cap s.keep s.newest c.push.ensures
+    in_place (λ chains layouts. AreSound c.link.new.self chains layouts s.waiting.items s.waiting.cap s.keep s.newest) _ _ _ _ c.push.ensures.chains c.push.ensures.layouts
     (front_sound s k c.args.place (used_for c.args.used (slot_at (slots_of s) c.args.place)) c.requires.within c.requires.idle c.requires.goes c.link.new.self c.link.ensures.writes.slots (group_within s.lists c.args.group c.requires.there) refl
     (λ two. (let few = c.requires.few two in omega (arith, chain_counts s k))) (c.link.ensures.nexts ∙ ap (set (nexts_in s.slots) c.args.place) c.first.ensures))
 
@@ -27,5 +28,5 @@ returns g c =
     let s = c.args.self.now in
     record {
       slots = c.link.ensures.writes.slots;
-      stays = record { settings = settings_stay s.number s.keep (list_of c.args.group) _ s.lists c.push.new.self c.push.ensures; space = c.link.ensures.writes.space; waiting = refl };
+      stays = record { settings = λ i. record { number = s.number; layouts = c.push.ensures.layouts i; removed = c.push.ensures.removed i; keep = s.keep }; space = c.link.ensures.writes.space; waiting = refl };
     }

@@ -4,9 +4,9 @@ use Rattle.descriptor_table.specs.Slots.{AreSound, count, slot_at, slots_in}
 use Rattle.descriptor_table.specs.Tables.{chains_of, layouts_of, slots_of}
 use Rattle.descriptor_table.specs.declared.slot.Chain.{Chain}
 use Rattle.descriptor_table.proofs.Counts.{chain_short, group_has, some_of}
+use Rattle.descriptor_table.proofs.Entries.{in_place}
 use Rattle.descriptor_table.proofs.Heads.{first, taken_sound}
 use Rattle.descriptor_table.proofs.Numbers.{list_counted}
-use Rattle.descriptor_table.proofs.Relisted.{relisted_sound, settings_stay}
 use Rattle.descriptor_table.proofs.set_table.SetTable.pick.Goals.{After-at}
 use Rattle.descriptor_table.proofs.set_table.SetTable.pick.Goals as goal
 
@@ -34,7 +34,7 @@ pub invariant_of-self-clause-sound : goal.invariant_of-self-clause-sound
 invariant_of-self-clause-sound g c =
     let s = c.args.self.now in
     let k = list_of c.args.group in
-    relisted_sound c.set_use.new.self k _ s.lists c.pop.new.self s.waiting.items s.waiting.cap s.keep s.newest c.pop.ensures
+    in_place (λ chains layouts. AreSound c.set_use.new.self chains layouts s.waiting.items s.waiting.cap s.keep s.newest) _ _ _ _ c.pop.ensures.chains c.pop.ensures.layouts
     (subst (λ (w : Chain). AreSound c.set_use.new.self (set (chains_of s) k (record { first = c.at.result.now.next; count = w.count - 1 })) (layouts_of s) s.waiting.items s.waiting.cap s.keep s.newest) c.get-list.ensures
     (taken_sound s k (some g (goal.at.invariant_of-self-clause-sound g c).After-at) c.get-list.result (sym c.get-list.ensures) c.set_use.new.self c.set_use.ensures.writes.slots c.at.ensures.next c.set_use.ensures.nexts))
 
@@ -46,5 +46,5 @@ returns g c =
     let s = c.args.self.now in
     record {
       slots = search (rules, at g (goal.at.returns g c).After-at);
-      stays = record { settings = settings_stay s.number s.keep (list_of c.args.group) _ s.lists c.pop.new.self c.pop.ensures; space = c.set_use.ensures.writes.space; waiting = refl };
+      stays = record { settings = λ i. record { number = s.number; layouts = c.pop.ensures.layouts i; removed = c.pop.ensures.removed i; keep = s.keep }; space = c.set_use.ensures.writes.space; waiting = refl };
     }
