@@ -1,11 +1,10 @@
 -- Layouts that come under numbers: for `SetManager::add_layout` and `add_number`. `layouts` are the slots of layouts before, `more` those after.
 use Rattle.std.proofs.lemmas.Grind.{common_steps}
-use Rattle.std.proofs.Common.{false, true, ◌≡◌, ◌≢◌, ◌<◌, ◌≤◌, ◌⊎◌, ◌&&◌, ◌==◌, ℕ, Bool, [], ◌∷◌, List, Option, None, Some, is_some, length, slice_index_or, if◌then◌else◌, refl, sym, ap, ◌∙◌, subst, inl, inr, arith, rules, eq-eqb, ne_eqb}
+use Rattle.std.proofs.Common.{false, true, ◌≡◌, ◌≢◌, ◌<◌, ◌≤◌, ◌&&◌, ℕ, Bool, [], ◌∷◌, List, Option, None, Some, is_some, length, slice_index_or, if◌then◌else◌, refl, sym, ap, ◌∙◌, subst, inl, inr, arith, rules, eq-eqb, ne_eqb}
 use Rattle.std.proofs.lemmas.Bool.{false≢true}
 use Rattle.std.proofs.lemmas.List.{get_or_past}
 use Rattle.gpu_descriptor_types.specs.declared.device.DescriptorDevice.{Ghosts}
 use Rattle.gpu_descriptor.specs.declared.layout.SetLayout.{SetLayout}
-use Rattle.gpu_descriptor.specs.declared.set.DescriptorSet.{DescriptorSet}
 use Rattle.descriptor_table.specs.Sets.{NameEach, sets_of}
 use Rattle.descriptor_table.specs.Slots.{Slot, is_removed, is_set_of, slot_at}
 use Rattle.descriptor_table.specs.Tables.{is_usable, layouts_of, removed_of, removed_without}
@@ -13,58 +12,38 @@ use Rattle.descriptor_table.specs.declared.handle.SetHandle.{SetHandle}
 use Rattle.descriptor_table.specs.declared.set_table.SetTable.{SetTable}
 use Rattle.descriptor_table.proofs.Counting.{below_or, same_or}
 use Rattle.descriptor_table.proofs.Listed.{past_end}
-use Rattle.descriptor_table.proofs.Renewing.{vacant_is}
-use Rattle.descriptor_manager.specs.LayoutRegistries.{KeepsLayouts, layouts_by}
+use Rattle.descriptor_manager.specs.LayoutRegistries.{KeepsLayouts, layout_at, layout_slots, layouts_by}
+use Rattle.descriptor_manager.specs.declared.layout_registry.LayoutHandle.{LayoutHandle}
 use Rattle.descriptor_manager.specs.Managers.{seen}
 use Rattle.descriptor_manager.specs.Own.{HasSetsOf}
-use Rattle.descriptor_manager.specs.Stores.{KeepsContents, KeepsStore, is_placed, pools_besides, removed_in, side_of, slots_in}
+use Rattle.descriptor_manager.specs.Stores.{KeepsContents, NoneComes, pools_besides, removed_in, side_of, slots_in}
 use Rattle.descriptor_manager.specs.declared.manager.SetManager.{SetManager}
 use Rattle.gpu_descriptor.specs.Caller.Others.{others_of}
 use Rattle.descriptor_manager.specs.declared.layout_registry.LayoutRegistry.{LayoutRegistry}
 use Rattle.descriptor_manager.specs.declared.store.Store.{Store}
-use Rattle.descriptor_manager.proofs.Owned.{sets_stay}
+use Rattle.descriptor_manager.proofs.Owned.{IsNumbered, layout_here, sets_as}
+
+-- the number of a layout that is there can't be used again
+pub layout_used : {L P S D : Type 0} {d : Ghosts D L P S} (r : LayoutRegistry L P S D d) (h : LayoutHandle) (known : SetLayout L) (place : ℕ) → place ≡ h.slot.place → layout_at r h ≡ Some known → is_usable (slot_at (layout_slots r) place) ≡ false
+layout_used r h known place at e = grind (arith, common_steps, layout_here r h known place at e)
 
 module _ {L P S D : Type 0} {d : Ghosts D L P S} {layouts : List (Slot (SetLayout L))} {manager : ℕ} where
-  -- the sets, once memory is reserved
-  pub sets_same : (old new : Store L P S D d) → KeepsContents old new → KeepsStore old new → HasSetsOf layouts manager old → HasSetsOf layouts manager new
-  sets_same old new contents stays was = sets_stay (record {
-    sets = λ p x full. inl (ap (λ l. (slot_at l p).set) (sym contents.slots) ∙ full, ap (λ l. (slot_at l p).layout) contents.slots);
-    rest = record { none_coming = contents.coming ∙ was.rest.none_coming; placed = λ p. ap (λ l. is_placed (slot_at l p)) contents.slots ∙ was.rest.placed p };
-    stays = stays;
-  }) was
+  -- the sets, once layouts have other numbers
+  pub sets_over :
+      {more : List (Slot (SetLayout L))} (old new : Store L P S D d) → KeepsContents old new → ((n : ℕ) → IsNumbered layouts more old new n)
+      → layouts_of new.table ≡ length more → new.table.number ≡ old.table.number → HasSetsOf layouts manager old → HasSetsOf more manager new
+  sets_over {more} old new contents each numbers same was = sets_as NoneComes layouts more manager old new (λ p x full. grind (arith, common_steps)) (grind (arith, common_steps)) (λ n x known none at. absurd none) each numbers same was
 
-  -- a layout has a number of which no set is. Other numbers are as they were, but that one may be lost of which no handle is left
+  -- a number isn't that of a removed layout any more: another one has it, or no handle is left. No set is of the number, and others are as they were
   pub sets_more :
-      {more : List (Slot (SetLayout L))} (old new : Store L P S D d) (number : ℕ) (known : SetLayout L) → KeepsContents old new → new.table.number ≡ old.table.number → layouts_of new.table ≡ length more
-      → ((n : ℕ) → n ≢ number → slot_at more n ≡ slot_at layouts n) → (slot_at more number).set ≡ Some known
+      {more : List (Slot (SetLayout L))} (old new : Store L P S D d) (number : ℕ) → KeepsContents old new
+      → ((n : ℕ) → n ≢ number → (slot_at more n ≡ slot_at layouts n) × (removed_in new n ≡ removed_in old n)) → is_usable (slot_at more number) ≡ false
       → ((p : ℕ) → is_set_of number (slot_at (slots_in old) p) ≡ false) → removed_in new number ≡ false
-      → ((n : ℕ) → n ≢ number → (removed_in new n ≡ removed_in old n) ⊎ ((removed_in new n ≡ false) × (is_usable (slot_at layouts n) ≡ false)))
-      → HasSetsOf layouts manager old → HasSetsOf more manager new
-  sets_more {more} old new number known contents same numbers others here none there removed was = record {
-    rest = record { none_coming = contents.coming ∙ was.rest.none_coming; placed = λ p. ap (λ l. is_placed (slot_at l p)) contents.slots ∙ was.rest.placed p };
-    own = λ p x other full at. (let o = slot_at (slots_in old) p in let is = ap (λ l. slot_at l p) contents.slots in
-        let full = ap (λ (s : Slot (DescriptorSet S)). s.set) (sym is) ∙ full in
-        let at = ap (λ (s : Slot (DescriptorSet S)). (slot_at more s.layout).set) (sym is) ∙ at in
-        was.own p x other full (ap (λ (s : Slot (SetLayout L)). s.set) (sym (others o.layout (λ e. absurd (false≢true (sym (none p) ∙ ap (λ s. is_some s && (o.layout == number)) full ∙ eq-eqb o.layout number e))))) ∙ at));
-    there = λ n some. elim (same_or n number) [
-      | inl e ↦ subst (λ n. removed_in new n ≡ false) (sym e) there
-      | inr ne ↦ elim (removed n ne) [
-        | inl kept ↦ kept ∙ was.there n (ap (λ (s : Slot (SetLayout L)). is_some s.set) (sym (others n ne)) ∙ some)
-        | inr lost ↦ lost.0
-      ]
-    ];
-    free = λ n usable. elim (same_or n number) [
-      | inl e ↦ absurd (false≢true (sym (ap is_some (vacant_is (slot_at more n) usable).0) ∙ ap (λ n. is_some (slot_at more n).set) e ∙ ap is_some here))
-      | inr ne ↦
-          let usable = ap is_usable (sym (others n ne)) ∙ usable in
-          elim (removed n ne) [
-            | inl kept ↦ kept ∙ was.free n usable
-            | inr lost ↦ absurd (false≢true (sym lost.1 ∙ usable))
-          ]
-    ];
-    numbers = numbers;
-    number = same ∙ was.number;
-  }
+      → layouts_of new.table ≡ length more → new.table.number ≡ old.table.number → HasSetsOf layouts manager old → HasSetsOf more manager new
+  sets_more {more} old new number contents others usable none there = sets_over old new contents (λ n. elim (same_or n number) [
+    | inl e ↦ subst (IsNumbered layouts more old new) (sym e) (inr (inl (none, there, usable)))
+    | inr ne ↦ inl (others n ne)
+  ])
 
   -- no set is of the next number
   pub next_unused : (s : Store L P S D d) → HasSetsOf layouts manager s → (p : ℕ) → is_set_of (length layouts) (slot_at (slots_in s) p) ≡ false
@@ -103,25 +82,6 @@ gone (Some x) some = absurd (some x refl)
 -- the number of a removed layout has none now
 pub number_left : {L P S D : Type 0} {d : Ghosts D L P S} (layouts : List (Slot (SetLayout L))) (manager : ℕ) (s : Store L P S D d) (n : ℕ) → removed_in s n ≡ true → HasSetsOf layouts manager s → (slot_at layouts n).set ≡ None
 number_left layouts manager s n removed was = gone (slot_at layouts n).set (λ x is. false≢true (sym (was.there n (ap is_some is)) ∙ removed))
-
--- a number may be lost, of which no handle is left; the layouts are as they were
-pub sets_lost : {L P S D : Type 0} {d : Ghosts D L P S} {layouts : List (Slot (SetLayout L))} {manager : ℕ} (old new : Store L P S D d) → KeepsContents old new → new.table.number ≡ old.table.number → layouts_of new.table ≡ layouts_of old.table
-    → ((n : ℕ) → (removed_in new n ≡ removed_in old n) ⊎ ((removed_in new n ≡ false) × (is_usable (slot_at layouts n) ≡ false)))
-    → HasSetsOf layouts manager old → HasSetsOf layouts manager new
-sets_lost {layouts = layouts} old new contents same numbers removed was = record {
-  rest = record { none_coming = contents.coming ∙ was.rest.none_coming; placed = λ p. ap (λ l. is_placed (slot_at l p)) contents.slots ∙ was.rest.placed p };
-  own = λ p x known full at. was.own p x known (ap (λ l. (slot_at l p).set) (sym contents.slots) ∙ full) (ap (λ l. (slot_at layouts (slot_at l p).layout).set) (sym contents.slots) ∙ at);
-  there = λ n some. elim (removed n) [
-    | inl kept ↦ kept ∙ was.there n some
-    | inr lost ↦ lost.0
-  ];
-  free = λ n usable. elim (removed n) [
-    | inl kept ↦ kept ∙ was.free n usable
-    | inr lost ↦ absurd (false≢true (sym lost.1 ∙ usable))
-  ];
-  numbers = numbers ∙ was.numbers;
-  number = same ∙ was.number;
-}
 
 -- what is seen of a set manager whose table has other numbers
 pub seen_kept : {L P S D : Type 0} {d : Ghosts D L P S} (r : SetManager L P S D d) (s : Store L P S D d) → KeepsContents r.store s → s.table.keep ≡ r.store.table.keep

@@ -2,7 +2,7 @@
 -- `slots` are those of sets, `layouts` those of layouts, `known` is a layout, and `n` or `number` the number of one.
 -- The last lemma is of the pools of a layout, by the counts and flags that it is known with.
 use Rattle.std.proofs.lemmas.Grind.{common_steps}
-use Rattle.std.proofs.Common.{◌≡◌, ℕ, ◌<◌, Bool, false, List, length, Option, Some, None, inl, inr, sym, ap, subst, ◌∙◌, arith, IfSome}
+use Rattle.std.proofs.Common.{◌≡◌, ℕ, ◌<◌, ◌⊎◌, Bool, false, true, List, length, Option, Some, None, inl, inr, refl, ap, subst, ◌∙◌, arith, IfSome}
 use Rattle.std.proofs.lemmas.List.{get_or_past}
 use Rattle.std.proofs.lemmas.Option.{none-some}
 use Rattle.gpu_descriptor_types.specs.Meaning.{Meaning, IsOfLayout}
@@ -16,13 +16,14 @@ use Rattle.gpu_descriptor.specs.Caller.SetLayouts.{IsMeant}
 use Rattle.gpu_descriptor.specs.Caller.Values.{Allocations}
 use Rattle.gpu_descriptor.specs.Model.Books.{books_of}
 use Rattle.descriptor_table.specs.Sets.{Sets, find, sets_of}
-use Rattle.descriptor_table.specs.Slots.{Slot, slot_at}
-use Rattle.descriptor_table.specs.Tables.{Settings}
+use Rattle.descriptor_table.specs.Slots.{Slot, is_set_of, slot_at}
+use Rattle.descriptor_table.specs.Tables.{Settings, is_usable, layouts_of}
 use Rattle.descriptor_table.specs.declared.handle.SetHandle.{SetHandle}
 use Rattle.descriptor_table.proofs.Counting.{below_or}
+use Rattle.descriptor_table.proofs.Renewing.{vacant_is}
 use Rattle.descriptor_manager.specs.LayoutRegistries.{layout_at, layout_slots, registry_of}
 use Rattle.descriptor_manager.specs.Own.{HasSetsOf}
-use Rattle.descriptor_manager.specs.Stores.{ComesOf, IsRefusedAtLast, KeepsStore, NoneComes, SettlesTo, removed_in, slots_in}
+use Rattle.descriptor_manager.specs.Stores.{ComesOf, IsAtRest, IsRefusedAtLast, KeepsStore, NoneComes, SetsCome, SettlesTo, removed_in, slots_in}
 use Rattle.descriptor_manager.specs.declared.layout_registry.LayoutHandle.{LayoutHandle}
 use Rattle.descriptor_manager.specs.declared.layout_registry.LayoutRegistry.{LayoutRegistry}
 use Rattle.descriptor_manager.specs.Stores as stores
@@ -40,20 +41,30 @@ pub own_comes : {L P S : Type 0} (means : Meaning L P S) (number : ℕ) (layouts
 own_comes means number layouts known here n x other comes there = grind (arith, common_steps, same_some)
 
 module _ {L P S D : Type 0} {d : Ghosts D L P S} where
+  -- each number has the layout that it had, or one of which there is no set, or none
+  abbrev pub IsNumbered : List (Slot (SetLayout L)) → List (Slot (SetLayout L)) → Store L P S D d → Store L P S D d → ℕ → Type 0
+  IsNumbered layouts more old new n = ((slot_at more n ≡ slot_at layouts n) × (removed_in new n ≡ removed_in old n)) ⊎ ((((p : ℕ) → is_set_of n (slot_at (slots_in old) p) ≡ false) × (removed_in new n ≡ false) × (is_usable (slot_at more n) ≡ false)) ⊎ ((removed_in new n ≡ true) × ((slot_at more n).set ≡ None)))
+
   -- sets stay, leave or come
-  module _ {max : ℕ} (comes : ℕ → DescriptorSet S → Type 0) (layouts : List (Slot (SetLayout L))) (number : ℕ) (old new : Store L P S D d) where
-    pub sets_settle : SettlesTo (removed_in old) max comes old new → ((n : ℕ) (x : DescriptorSet S) (known : SetLayout L) → comes n x → (slot_at layouts n).set ≡ Some known → IsOfLayout d.meaning known.layout x.raw) → HasSetsOf layouts number old → HasSetsOf layouts number new
-    sets_settle settles own was = record {
-      rest = settles.rest;
-      own = λ p x known full here. elim (settles.sets p x full) [
-        | inl stays ↦ was.own p x known stays.0 (ap (λ n. (slot_at layouts n).set) (sym stays.1) ∙ here)
-        | inr come ↦ own (slot_at (slots_in new) p).layout x known come here
-      ];
-      there = λ n some. ap (λ (s : Settings). s.removed n) settles.stays.settings ∙ was.there n some;
-      free = λ n usable. ap (λ (s : Settings). s.removed n) settles.stays.settings ∙ was.free n usable;
-      numbers = ap (λ (s : Settings). s.layouts) settles.stays.settings ∙ was.numbers;
-      number = ap (λ (s : Settings). s.number) settles.stays.settings ∙ was.number;
-    }
+  pub sets_as :
+      (comes : ℕ → DescriptorSet S → Type 0) (layouts more : List (Slot (SetLayout L))) (number : ℕ) (old new : Store L P S D d) → SetsCome comes (slots_in old) (slots_in new) → IsAtRest new
+      → ((n : ℕ) (x : DescriptorSet S) (known : SetLayout L) → comes n x → (slot_at more n).set ≡ Some known → IsOfLayout d.meaning known.layout x.raw)
+      → ((n : ℕ) → IsNumbered layouts more old new n) → layouts_of new.table ≡ length more → new.table.number ≡ old.table.number → HasSetsOf layouts number old → HasSetsOf more number new
+  sets_as comes layouts more number old new sets rest own each numbers same was = record {
+    rest = rest;
+    own = λ p x known full at. grind (arith, common_steps, sets p x full, each (slot_at (slots_in new) p).layout, was.own p x known, own (slot_at (slots_in new) p).layout x known);
+    there = λ n some. grind (arith, common_steps, each n, was.there n);
+    free = λ n usable. grind (arith, common_steps, each n, was.free n, vacant_is);
+    numbers = numbers;
+    number = same ∙ was.number;
+  }
+
+  pub sets_settle :
+      {max : ℕ} (comes : ℕ → DescriptorSet S → Type 0) (layouts : List (Slot (SetLayout L))) (number : ℕ) (old new : Store L P S D d) → SettlesTo (removed_in old) max comes old new
+      → ((n : ℕ) (x : DescriptorSet S) (known : SetLayout L) → comes n x → (slot_at layouts n).set ≡ Some known → IsOfLayout d.meaning known.layout x.raw) → HasSetsOf layouts number old → HasSetsOf layouts number new
+  sets_settle comes layouts number old new settles own was =
+      let s = settles.stays.settings in
+      sets_as comes layouts layouts number old new settles.sets settles.rest own (λ n. inl (refl, ap (λ (s : Settings). s.removed n) s)) (ap (λ (s : Settings). s.layouts) s ∙ was.numbers) (ap (λ (s : Settings). s.number) s) was
 
   -- and so if none comes
   pub sets_stay : {max number : ℕ} {layouts : List (Slot (SetLayout L))} {old new : Store L P S D d} → SettlesTo (removed_in old) max NoneComes old new → HasSetsOf layouts number old → HasSetsOf layouts number new

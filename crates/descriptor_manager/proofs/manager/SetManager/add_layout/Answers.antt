@@ -1,14 +1,11 @@
 use Rattle.std.proofs.Common.{◌≡◌, ◌<◌, inl, inr, refl, sym, ap, ◌∙◌, subst, arith}
 use Rattle.std.specs.Prelude.{OnErr}
-use Rattle.descriptor_table.specs.Slots.{slot_at}
 use Rattle.descriptor_table.specs.Tables.{Settings, is_usable}
-use Rattle.descriptor_table.proofs.Counting.{same_or}
 use Rattle.descriptor_table.proofs.Listed.{test_within}
 use Rattle.descriptor_manager.specs.LayoutRegistries.{layout_slots}
 use Rattle.descriptor_manager.specs.Managers.{seen}
 use Rattle.descriptor_manager.specs.Stores.{removed_in}
-use Rattle.descriptor_manager.proofs.Numbering.{apart_from, gone, number_left, seen_kept, sets_lost, sets_more, without_here, without_other}
-use Rattle.descriptor_manager.proofs.Owned.{layout_here}
+use Rattle.descriptor_manager.proofs.Numbering.{apart_from, gone, layout_used, number_left, seen_kept, sets_more, sets_over, without_here, without_other}
 use Rattle.descriptor_manager.proofs.manager.SetManager.add_layout.Goals.{in-Some+else-is_usable, in_default}
 use Rattle.descriptor_manager.proofs.manager.SetManager.add_layout.Goals as goal
 
@@ -25,12 +22,11 @@ invariant_of-self-clause-sets g c =
     let number = c.in-Some.number in
     let r = c.in-Some.ensures.renews in
     let s = r.only.settings in
-    sets_more old.store c.renew_layout.new.self number c.args.layout c.in-Some.ensures.contents (ap (λ (s : Settings). s.number) s)
-    (ap (λ (s : Settings). s.layouts) s ∙ old.sets.numbers ∙ sym c.renew.ensures.long) c.renew.ensures.others
-    (layout_here c.renew.new.self c.renew.result c.args.layout number (sym c.renew.ensures.place) c.renew.ensures.added) r.none
+    sets_more old.store c.renew_layout.new.self number c.in-Some.ensures.contents
+    (λ n ne. (c.renew.ensures.others n ne, ap (λ (s : Settings). s.removed n) s ∙ without_other number n (removed_in old.store) ne))
+    (layout_used c.renew.new.self c.renew.result c.args.layout number (sym c.renew.ensures.place) c.renew.ensures.added) r.none
     (ap (λ (s : Settings). s.removed number) s ∙ without_here number number (removed_in old.store) refl)
-    (λ n ne. inl (ap (λ (s : Settings). s.removed n) s ∙ without_other number n (removed_in old.store) ne))
-    old.sets
+    (ap (λ (s : Settings). s.layouts) s ∙ old.sets.numbers ∙ sym c.renew.ensures.long) (ap (λ (s : Settings). s.number) s) old.sets
 
 pub returns-then-is_usable-clause-given : goal.returns-then-is_usable-clause-given
 returns-then-is_usable-clause-given g c = c.renew.ensures.names.given 0 c.renew.result.slot (omega arith)
@@ -46,19 +42,18 @@ pub invariant_of-self-else-is_usable-clause-sets : goal.invariant_of-self-else-i
 invariant_of-self-else-is_usable-clause-sets g c =
     let old = c.args.self.now in
     let number = c.in-Some.number in
-    let s = c.in-Some.ensures.renews.only.settings in
-    sets_lost old.store c.renew_layout.new.self c.in-Some.ensures.contents (ap (λ (s : Settings). s.number) s) (ap (λ (s : Settings). s.layouts) s)
-    (λ n. elim (same_or n number) [
-      | inl e ↦ inr (ap (λ (s : Settings). s.removed n) s ∙ without_here number n (removed_in old.store) e, ap (λ n. is_usable (slot_at (layout_slots old.layouts) n)) e ∙ sym c.is_usable.ensures.usable ∙ c.if-is_usable.false)
-      | inr ne ↦ inl (ap (λ (s : Settings). s.removed n) s ∙ without_other number n (removed_in old.store) ne)
-    ])
-    old.sets
+    let r = c.in-Some.ensures.renews in
+    let s = r.only.settings in
+    sets_more old.store c.renew_layout.new.self number c.in-Some.ensures.contents
+    (λ n ne. (refl, ap (λ (s : Settings). s.removed n) s ∙ without_other number n (removed_in old.store) ne)) (sym c.is_usable.ensures.usable ∙ c.if-is_usable.false) r.none
+    (ap (λ (s : Settings). s.removed number) s ∙ without_here number number (removed_in old.store) refl)
+    (ap (λ (s : Settings). s.layouts) s ∙ old.sets.numbers) (ap (λ (s : Settings). s.number) s) old.sets
 
 pub invariant_of-self-in_default-clause-sets : goal.invariant_of-self-in_default-clause-sets
 invariant_of-self-in_default-clause-sets g c =
     let old = c.args.self.now in
     let s = (c.renew_layout.ensures.none (gone c.renew_layout.result c.in_default.not-Some)).1.settings in
-    sets_lost old.store c.renew_layout.new.self c.renew_layout.ensures.contents (ap (λ (s : Settings). s.number) s) (ap (λ (s : Settings). s.layouts) s) (λ n. inl (ap (λ (s : Settings). s.removed n) s)) old.sets
+    sets_over old.store c.renew_layout.new.self c.renew_layout.ensures.contents (λ n. inl (refl, ap (λ (s : Settings). s.removed n) s)) (ap (λ (s : Settings). s.layouts) s ∙ old.sets.numbers) (ap (λ (s : Settings). s.number) s) old.sets
 
 pub returns-clause-grows : goal.returns-clause-grows
 returns-clause-grows g c =

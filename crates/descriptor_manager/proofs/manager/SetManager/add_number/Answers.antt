@@ -1,15 +1,17 @@
-use Rattle.std.proofs.Common.{◌+◌, length, inl, sym, ap, ◌∙◌, subst, arith}
+use Rattle.std.proofs.Common.{◌+◌, length, inl, refl, sym, ap, ◌∙◌, subst, arith}
 use Rattle.descriptor_table.specs.Tables.{Settings}
 use Rattle.descriptor_manager.specs.LayoutRegistries.{layout_slots}
 use Rattle.descriptor_manager.specs.Own.{HasSetsOf}
-use Rattle.descriptor_manager.proofs.Numbering.{apart_from, names_from, next_unused, past_there, sets_more, sets_same}
-use Rattle.descriptor_manager.proofs.Owned.{layout_here}
+use Rattle.descriptor_manager.proofs.Numbering.{apart_from, layout_used, names_from, next_unused, past_there, sets_more, sets_over}
 use Rattle.descriptor_manager.proofs.manager.SetManager.add_number.Goals.{After-reserve, After-reserve_layout}
 use Rattle.descriptor_manager.proofs.manager.SetManager.add_number.Goals as goal
 
 -- the sets once memory for the number is reserved, and then once memory for the layout is, too
 reserved : (g : _) (c : After-reserve_layout g) → HasSetsOf (layout_slots c.args.self.now.layouts) c.args.self.now.manager c.reserve_layout.new.self
-reserved g c = sets_same c.args.self.now.store c.reserve_layout.new.self c.reserve_layout.ensures.contents c.reserve_layout.ensures.stays c.args.self.now.sets
+reserved g c =
+    let s = c.reserve_layout.ensures.stays.settings in
+    sets_over c.args.self.now.store c.reserve_layout.new.self c.reserve_layout.ensures.contents (λ n. inl (refl, ap (λ (s : Settings). s.removed n) s))
+    (ap (λ (s : Settings). s.layouts) s ∙ c.args.self.now.sets.numbers) (ap (λ (s : Settings). s.number) s) c.args.self.now.sets
 
 reserved_both : (g : _) (c : After-reserve g) → HasSetsOf (layout_slots c.args.self.now.layouts) c.args.self.now.manager c.reserve_layout.new.self → HasSetsOf (layout_slots c.reserve.new.self) c.args.self.now.manager c.reserve_layout.new.self
 reserved_both g c was = subst (λ l. HasSetsOf l c.args.self.now.manager c.reserve_layout.new.self) (sym c.reserve.ensures.keeps.slots) was
@@ -26,13 +28,11 @@ invariant_of-self-2-clause-sets g c =
     let was = reserved_both g d.After-reserve (reserved g d.After-reserve_layout) in
     let s = c.add_layout.ensures.settings in
     let number = length (layout_slots c.reserve.new.self) in
-    sets_more c.reserve_layout.new.self c.add_layout.new.self number c.args.layout c.add_layout.ensures.contents (ap (λ (s : Settings). s.number) s)
-    (ap (λ (s : Settings). s.layouts) s ∙ ap (λ n. n + 1) was.numbers ∙ sym c.add.ensures.long)
-    (λ n ne. c.add.ensures.others n (λ e. ne (e ∙ c.add.ensures.place)))
-    (layout_here c.add.new.self c.add.result c.args.layout number (sym c.add.ensures.place) c.add.ensures.added) (next_unused c.reserve_layout.new.self was)
+    sets_more c.reserve_layout.new.self c.add_layout.new.self number c.add_layout.ensures.contents
+    (λ n ne. (c.add.ensures.others n (λ e. ne (e ∙ c.add.ensures.place)), ap (λ (s : Settings). s.removed n) s))
+    (layout_used c.add.new.self c.add.result c.args.layout number (sym c.add.ensures.place) c.add.ensures.added) (next_unused c.reserve_layout.new.self was)
     (ap (λ (s : Settings). s.removed number) s ∙ past_there c.reserve_layout.new.self.table number (let same = was.numbers in omega arith))
-    (λ n ne. inl (ap (λ (s : Settings). s.removed n) s))
-    was
+    (ap (λ (s : Settings). s.layouts) s ∙ ap (λ n. n + 1) was.numbers ∙ sym c.add.ensures.long) (ap (λ (s : Settings). s.number) s) was
 
 pub returns-clause-given : goal.returns-clause-given
 returns-clause-given g c = c.add.ensures.names.given 0 c.add.result.slot (omega arith)

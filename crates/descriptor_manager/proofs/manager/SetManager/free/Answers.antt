@@ -1,16 +1,13 @@
 use Rattle.std.proofs.Common.{refl, subst, ◌∙◌}
 use Rattle.descriptor_table.specs.Sets.{AreHeldOnce}
-use Rattle.descriptor_manager.specs.LayoutRegistries.{layout_slots}
 use Rattle.descriptor_manager.specs.Managers.{seen}
-use Rattle.descriptor_manager.specs.Stores.{NoneComes, removed_in, slots_in}
-use Rattle.descriptor_manager.proofs.Owned.{only_store, sets_settle}
+use Rattle.descriptor_manager.specs.Stores.{removed_in, slots_in}
+use Rattle.descriptor_manager.proofs.Owned.{only_store, sets_stay}
 use Rattle.descriptor_manager.proofs.Showing.{freed_names}
 use Rattle.descriptor_manager.proofs.manager.SetManager.free.Goals as goal
 
 pub invariant_of-self-clause-sets : goal.invariant_of-self-clause-sets
-invariant_of-self-clause-sets g c =
-    sets_settle NoneComes (layout_slots c.args.self.now.layouts) c.args.self.now.manager c.args.self.now.store c.free_each.new.self c.free_each.ensures.settles
-    (λ n x known none here. absurd none) c.args.self.now.sets
+invariant_of-self-clause-sets g c = sets_stay c.free_each.ensures.settles c.args.self.now.sets
 
 pub returns-clause-names : goal.returns-clause-names
 returns-clause-names g c =

@@ -1,17 +1,14 @@
 use Rattle.std.proofs.Common.{refl, subst, ◌∙◌}
 use Rattle.descriptor_table.specs.Sets.{AreHeldOnce}
-use Rattle.descriptor_manager.specs.LayoutRegistries.{layout_slots}
 use Rattle.descriptor_manager.specs.Managers.{seen}
-use Rattle.descriptor_manager.specs.Stores.{NoneComes, slots_in}
-use Rattle.descriptor_manager.proofs.Owned.{only_store, sets_settle}
+use Rattle.descriptor_manager.specs.Stores.{slots_in}
+use Rattle.descriptor_manager.proofs.Owned.{only_store, sets_stay}
 use Rattle.descriptor_manager.proofs.Showing.{waited_names}
 use Rattle.descriptor_manager.proofs.manager.SetManager.free_after.Goals.{Else-not-wait_each}
 use Rattle.descriptor_manager.proofs.manager.SetManager.free_after.Goals as goal
 
 pub invariant_of-self-clause-sets : goal.invariant_of-self-clause-sets
-invariant_of-self-clause-sets g c =
-    sets_settle NoneComes (layout_slots c.args.self.now.layouts) c.args.self.now.manager c.args.self.now.store c.wait_each.new.self c.wait_each.ensures.settles
-    (λ n x known none here. absurd none) c.args.self.now.sets
+invariant_of-self-clause-sets g c = sets_stay c.wait_each.ensures.settles c.args.self.now.sets
 
 -- each handle has a held set
 held : (g : _) (c : Else-not-wait_each g) → AreHeldOnce c.args.self.now.manager (slots_in c.args.self.now.store) (g.N.SetName.handles_of c.args.sets.now)

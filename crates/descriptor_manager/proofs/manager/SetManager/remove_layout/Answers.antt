@@ -1,24 +1,22 @@
 use Rattle.std.proofs.lemmas.Grind.{common_steps}
 use Rattle.std.proofs.Common.{◌≡◌, ◌≢◌, ℕ, Bool, true, if◌then◌else◌, List, is_some, inl, inr, refl, sym, ap, ◌∙◌, arith, eq-eqb, ne_eqb, rules, [], Some, length}
-use Rattle.std.proofs.lemmas.Bool.{false≢true}
-use Rattle.std.proofs.lemmas.Option.{none-some}
 use Rattle.std.proofs.lemmas.List.{length-set}
 use Rattle.std.proofs.lemmas.List.Elements.{All-cons, All-nil}
 use Rattle.gpu_descriptor.specs.declared.layout.SetLayout.{SetLayout}
 use Rattle.descriptor_table.specs.Sets.{sets_of}
 use Rattle.descriptor_table.specs.Slots.{Slot, count, is_kept_of, slot_at}
-use Rattle.descriptor_table.specs.Tables.{Becomes, Settings, Turns, is_usable, removed_with, vacated}
+use Rattle.descriptor_table.specs.Tables.{Becomes, Settings, Turns, removed_with, vacated}
 use Rattle.descriptor_table.proofs.Counting.{same_or}
 use Rattle.descriptor_table.proofs.Counts.{none_count}
 use Rattle.descriptor_table.proofs.Naming.{names_kept}
 use Rattle.descriptor_table.proofs.Listed.{other_slots, slot_set}
 use Rattle.descriptor_manager.specs.LayoutRegistries.{layout_slots, layouts_by}
-use Rattle.descriptor_manager.specs.Stores.{removed_in, side_of, slots_in}
+use Rattle.descriptor_manager.specs.Stores.{NoneComes, removed_in, side_of, slots_in}
 use Rattle.descriptor_manager.specs.Managers.{seen}
 use Rattle.descriptor_manager.proofs.Back.{kept_out}
 use Rattle.descriptor_manager.proofs.Naming.{kept_as}
 use Rattle.descriptor_manager.proofs.Showing.{quiet_shown, turned}
-use Rattle.descriptor_manager.proofs.Owned.{layout_here, layout_within}
+use Rattle.descriptor_manager.proofs.Owned.{layout_here, layout_within, sets_as}
 use Rattle.descriptor_manager.proofs.manager.SetManager.remove_layout.Goals.{After-place}
 use Rattle.descriptor_manager.proofs.manager.SetManager.remove_layout.Goals as goal
 
@@ -50,32 +48,15 @@ pub invariant_of-self-clause-sets : goal.invariant_of-self-clause-sets
 invariant_of-self-clause-sets g c =
     let old = c.args.self.now in
     let place = c.place.result in
-    let e = c.remove_layout.ensures in
+    let settles = c.remove_layout.ensures.settles in
+    let s = settles.stays.settings in
     let d = (goal.at.invariant_of-self-clause-sets g c).After-place in
-    let removed : (n : ℕ) → removed_in c.remove_layout.new.self n ≡ removed_with place (removed_in old.store) n = λ n. ap (λ (s : Settings). s.removed n) e.settles.stays.settings in
-    let set = λ (s : Slot (SetLayout _)). s.set in
-    record {
-      rest = e.settles.rest;
-      own = λ p x known full there. elim (e.settles.sets p x full) [
-        | inl stays ↦
-            let n = (slot_at (slots_in c.remove_layout.new.self) p).layout in
-            elim (same_or n place) [
-              | inl same ↦ absurd (none-some known (sym (ap (λ n. set (slot_at (layout_slots c.remove.new.self) n)) same ∙ ap set (gone g d)) ∙ there))
-              | inr ne ↦ old.sets.own p x known stays.0 (ap (λ n. set (slot_at (layout_slots old.layouts) n)) (sym stays.1) ∙ ap set (sym (others g d n ne)) ∙ there)
-            ]
-        | inr none ↦ absurd none
-      ];
-      there = λ n some. elim (same_or n place) [
-        | inl same ↦ absurd (false≢true (sym (ap (λ n. is_some (set (slot_at (layout_slots c.remove.new.self) n))) same ∙ ap (λ s. is_some (set s)) (gone g d)) ∙ some))
-        | inr ne ↦ removed n ∙ removed_other place (removed_in old.store) n ne ∙ old.sets.there n (ap (λ s. is_some (set s)) (sym (others g d n ne)) ∙ some)
-      ];
-      free = λ n usable. elim (same_or n place) [
-        | inl same ↦ removed n ∙ ap (λ b. if b then true else removed_in old.store n) (eq-eqb n place same)
-        | inr ne ↦ removed n ∙ removed_other place (removed_in old.store) n ne ∙ old.sets.free n (ap is_usable (sym (others g d n ne)) ∙ usable)
-      ];
-      numbers = ap (λ (s : Settings). s.layouts) e.settles.stays.settings ∙ old.sets.numbers ∙ sym (ap length (c.in-Some.ensures.slots refl) ∙ length-set _ _ _);
-      number = ap (λ (s : Settings). s.number) e.settles.stays.settings ∙ old.sets.number;
-    }
+    sets_as NoneComes (layout_slots old.layouts) (layout_slots c.remove.new.self) old.manager old.store c.remove_layout.new.self settles.sets settles.rest (λ n x known none at. absurd none)
+    (λ n. elim (same_or n place) [
+      | inl e ↦ inr (inr (ap (λ (s : Settings). s.removed n) s ∙ ap (λ b. if b then true else removed_in old.store n) (eq-eqb n place e), ap (λ n. (slot_at (layout_slots c.remove.new.self) n).set) e ∙ ap (λ (s : Slot (SetLayout _)). s.set) (gone g d)))
+      | inr ne ↦ inl (others g d n ne, ap (λ (s : Settings). s.removed n) s ∙ removed_other place (removed_in old.store) n ne)
+    ])
+    (ap (λ (s : Settings). s.layouts) s ∙ old.sets.numbers ∙ sym (ap length (c.in-Some.ensures.slots refl) ∙ length-set _ _ _)) (ap (λ (s : Settings). s.number) s) old.sets
 
 pub returns-in-Some-clause-none_kept : goal.returns-in-Some-clause-none_kept
 returns-in-Some-clause-none_kept g c = grind (arith, common_steps, removed_none)
