@@ -1,7 +1,7 @@
 -- A layout that comes into a slot and has a handle, and one that leaves: for `LayoutRegistry::add` and `remove`.
 use Rattle.std.proofs.lemmas.Grind.{common_steps}
-use Rattle.std.proofs.Common.{◌≡◌, ◌≢◌, ℕ, ◌<◌, ◌⊎◌, true, false, List, [], ◌∷◌, set, Option, None, Some, IsSome, refl, sym, ap, ◌∙◌, arith, rules}
-use Rattle.std.proofs.lemmas.Option.{none-some}
+use Rattle.std.proofs.Common.{◌≡◌, ◌≢◌, ℕ, ◌<◌, true, false, List, [], ◌∷◌, set, Option, None, Some, IsSome, inl, inr, refl, sym, ap, subst, ◌∙◌, arith, rules}
+use Rattle.std.proofs.lemmas.Option.{same_Some}
 use Rattle.descriptor_table.specs.Sets.{AreHeldOnce, LoseNames, NameEach, is_held, sets_of}
 use Rattle.descriptor_table.specs.Slots.{Slot, is_live, slot_at}
 use Rattle.descriptor_table.specs.Tables.{Puts, Renews, place_at, renewed, vacated}
@@ -15,7 +15,6 @@ use Rattle.descriptor_table.proofs.Listed.{other_slots, slot_set}
 use Rattle.descriptor_manager.proofs.Arriving.{same_clears}
 use Rattle.descriptor_manager.proofs.Handing.{new_one}
 use Rattle.descriptor_manager.proofs.Joining.{are_named}
-use Rattle.descriptor_manager.proofs.Owned.{same_some}
 
 module _ {T : Type 0} {number p layout : ℕ} {x : T} {u : Use} {handle : SetHandle} {old mid new : List (Slot T)} (puts : Puts layout x p old mid) (renews : Renews number p u handle mid new) where
   -- its set is there
@@ -27,16 +26,15 @@ module _ {T : Type 0} {number p layout : ℕ} {x : T} {u : Use} {handle : SetHan
 
 module _ {T : Type 0} {number p : ℕ} {x : T} {handle : SetHandle} {old mid new : List (Slot T)} (puts : Puts 0 x p old mid) (renews : Renews number p Held handle mid new) where
   -- the handle, and no other one, names something else
-  pub added_names : NameEach (handle ∷ []) (sets_of number 0 false old) (sets_of number 0 false new)
-  added_names = are_named number 0 Held (handle ∷ []) old old new (λ q. same_clears (slot_at old q) (slot_at old q) refl) (new_one number p Held handle 0 x old mid new puts renews) 0 false refl
+  pub added_names : {same : ℕ} → same ≡ number → NameEach (handle ∷ []) (sets_of number 0 false old) (sets_of same 0 false new)
+  added_names e = subst (λ n. NameEach (handle ∷ []) (sets_of number 0 false old) (sets_of n 0 false new)) (sym e) (are_named number 0 Held (handle ∷ []) old old new (λ q. same_clears (slot_at old q) (slot_at old q) refl) (new_one number p Held handle 0 x old mid new puts renews) 0 false refl)
 
-  -- each layout that is there was there before, or is the new one
-  pub added_only : (n : ℕ) (y : T) → (slot_at new n).set ≡ Some y → ((slot_at old n).set ≡ Some y) ⊎ (y ≡ x)
-  added_only n y is = grind (arith, common_steps, added_here puts renews, added_others puts renews n, same_or n p, same_some)
-
-  -- each layout that was there stays
-  pub added_stay : (n : ℕ) (y : T) → (slot_at old n).set ≡ Some y → (slot_at new n).set ≡ Some y
-  added_stay n y is = grind (arith, common_steps, same_or n p, added_others puts renews n, puts.empty, none-some)
+  -- what holds of each layout holds of the new ones
+  pub added_meant : (P : T → Type 0) → ((n : ℕ) (y : T) → (slot_at old n).set ≡ Some y → P y) → P x → (n : ℕ) (y : T) → (slot_at new n).set ≡ Some y → P y
+  added_meant P was here n y is = elim (same_or n p) [
+    | inl e ↦ subst P (same_Some x y (sym (added_here puts renews) ∙ ap (λ n. (slot_at new n).set) (sym e) ∙ is)) here
+    | inr ne ↦ was n y (ap (λ (s : Slot T). s.set) (sym (added_others puts renews n ne)) ∙ is)
+  ]
 
 -- a layout that leaves its slot
 module _ {T : Type 0} (number : ℕ) (h : SetHandle) (old new : List (Slot T)) where

@@ -4,7 +4,7 @@
 use Rattle.std.proofs.lemmas.Grind.{common_steps}
 use Rattle.std.proofs.Common.{◌≡◌, ℕ, ◌<◌, ◌⊎◌, Bool, false, true, List, length, Option, Some, None, inl, inr, refl, ap, subst, ◌∙◌, arith, IfSome}
 use Rattle.std.proofs.lemmas.List.{get_or_past}
-use Rattle.std.proofs.lemmas.Option.{none-some}
+use Rattle.std.proofs.lemmas.Option.{none-some, same_Some}
 use Rattle.gpu_descriptor_types.specs.Meaning.{Meaning, IsOfLayout}
 use Rattle.gpu_descriptor_types.specs.declared.device.DescriptorDevice.{Ghosts}
 use Rattle.gpu_descriptor_types.specs.Counts.{kinds}
@@ -33,12 +33,9 @@ use Rattle.descriptor_manager.specs.declared.manager.SetManager.{SetManager}
 use Rattle.descriptor_manager.proofs.Handing.{unmet_slots}
 use Rattle.descriptor_manager.proofs.Showing.{cleaned_names}
 
-pub same_some : {T : Type 0} (x y : T) → Some x ≡ Some y → x ≡ y
-same_some x y e = ap (λ o. elim o [ None ↦ x | Some z ↦ z ]) e
-
 -- a set that comes is of the layout that has its number
 pub own_comes : {L P S : Type 0} (means : Meaning L P S) (number : ℕ) (layouts : List (Slot (SetLayout L))) (known : SetLayout L) → (slot_at layouts number).set ≡ Some known → (n : ℕ) (x : DescriptorSet S) (other : SetLayout L) → ComesOf means known.layout number n x → (slot_at layouts n).set ≡ Some other → IsOfLayout means other.layout x.raw
-own_comes means number layouts known here n x other comes there = grind (arith, common_steps, same_some)
+own_comes means number layouts known here n x other comes there = grind (arith, common_steps, same_Some)
 
 module _ {L P S D : Type 0} {d : Ghosts D L P S} where
   -- each number has the layout that it had, or one of which there is no set, or none

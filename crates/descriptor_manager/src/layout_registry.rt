@@ -78,8 +78,6 @@ impl<L, P, S, D: DescriptorDevice<L, P, S>> LayoutRegistry<L, P, S, D> {
         ensures added { layout_at self.new result ≡ Some layout }
         ensures fresh { layout_at self.old result ≡ None }
         ensures place { result.slot.place ≡ length (layout_slots self.old) }
-        ensures stay { (n : ℕ) (known : SetLayout L) → (slot_at (layout_slots self.old) n).set
-            ≡ Some known → (slot_at (layout_slots self.new) n).set ≡ Some known }
         ensures others { (n : ℕ) → n ≢ result.slot.place → slot_at (layout_slots self.new) n
             ≡ slot_at (layout_slots self.old) n }
         ensures long { length (layout_slots self.new) ≡ length (layout_slots self.old) + 1 }
@@ -111,8 +109,6 @@ impl<L, P, S, D: DescriptorDevice<L, P, S>> LayoutRegistry<L, P, S, D> {
         ensures added { layout_at self.new result ≡ Some layout }
         ensures fresh { layout_at self.old result ≡ None }
         ensures place { result.slot.place ≡ number }
-        ensures stay { (n : ℕ) (known : SetLayout L) → (slot_at (layout_slots self.old) n).set
-            ≡ Some known → (slot_at (layout_slots self.new) n).set ≡ Some known }
         ensures others { (n : ℕ) → n ≢ number → slot_at (layout_slots self.new) n
             ≡ slot_at (layout_slots self.old) n }
         ensures long { length (layout_slots self.new) ≡ length (layout_slots self.old) }
