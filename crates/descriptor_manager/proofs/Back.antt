@@ -19,15 +19,8 @@ use Rattle.descriptor_manager.proofs.Settling.{Follows}
 
 module _ {T : Type 0} where
   -- the same sets are there, if each slot that turns has its set still
-  pub turned_sets : (test : Slot T → Bool) (becomes : List (Slot T) → Slot T → Slot T → Type 0) (old new : List (Slot T)) → Turns test becomes old new → ((o n : Slot T) → becomes new o n → n.set ≡ o.set) → sets_in new ≡ sets_in old
-  turned_sets test becomes old new t same = search (rules, same_sets)
-
-  -- sets that settle, wait or go are in their slots still
-  pub settled_sets : (test : Slot T → Bool) (removed : ℕ → Bool) (max : ℕ) (old new : List (Slot T)) → Turns test (IsBack (used_for Going) removed max) old new → sets_in new ≡ sets_in old
-  settled_sets test removed max old new t = turned_sets test (IsBack (used_for Going) removed max) old new t (search rules)
-
-  pub leaving_sets : (test : Slot T → Bool) (old new : List (Slot T)) → Turns test (Becomes (used_for Going)) old new → sets_in new ≡ sets_in old
-  leaving_sets test old new t = turned_sets test (Becomes (used_for Going)) old new t (λ o n going. ap (λ (s : Slot T). s.set) going)
+  pub turned_sets : {test : Slot T → Bool} {becomes : List (Slot T) → Slot T → Slot T → Type 0} {old new : List (Slot T)} → Turns test becomes old new → ((o n : Slot T) → becomes new o n → n.set ≡ o.set) → sets_in new ≡ sets_in old
+  turned_sets t same = search (rules, same_sets)
 
   -- as many are kept when sets that go are returned
   pub given_kept : (mid new : List (Slot T)) → Turns goes (Becomes vacated) mid new → (k : ℕ) → 2 ≤ k → count (is_in k) new ≡ count (is_in k) mid
@@ -50,13 +43,6 @@ module _ {T : Type 0} where
   -- no set of a layout is kept once its kept ones left their slots
   pub kept_out : (layout : ℕ) (old new : List (Slot T)) → Turns (is_kept_of layout) (Becomes vacated) old new → (p : ℕ) → is_kept_of layout (slot_at new p) ≡ false
   kept_out layout old new turns p = search (rules, group_out)
-
-  pub aged_sets : (old new : List (Slot T)) → Turns (λ s. true) (Becomes aged) old new → sets_in new ≡ sets_in old
-  aged_sets old new a = turned_sets (λ s. true) (Becomes aged) old new a (λ o n e. ap (λ (s : Slot T). s.set) e)
-
-  -- sets that go are in their slots still
-  pub gone_sets : (test : Slot T → Bool) (old new : List (Slot T)) → Turns test (MayBecome (used_for Going)) old new → sets_in new ≡ sets_in old
-  gone_sets test old new t = turned_sets test (MayBecome (used_for Going)) old new t (search rules)
 
   -- a cleanup in three steps: no set is kept later, the kept ones go, and those that go were returned
   pub cleaned : (old a b new : List (Slot T)) → ArePlaced old → Turns (λ s. true) (Becomes aged) old a → Turns is_kept (MayBecome (used_for Going)) a b → ((layout : ℕ) → count (is_in (layout + 2)) b ≤ 0) → Turns goes (Becomes vacated) b new → AreCleaned old new

@@ -1,9 +1,9 @@
 -- Each kind of change of a slot follows what it was (`Follows`, in `Settling`): its set stays or leaves, and is at rest if it was.
 -- For the calls of `Store` by which sets are freed, wait, or go.
 use Rattle.std.proofs.lemmas.Grind.{common_steps}
-use Rattle.std.proofs.Common.{◌≡◌, ◌≢◌, ℕ, ◌+◌, ◌<◌, ◌&&◌, ◌||◌, not, Bool, true, false, List, length, is_some, inl, inr, subst, arith}
+use Rattle.std.proofs.Common.{◌≡◌, ℕ, ◌+◌, ◌&&◌, ◌||◌, not, Bool, true, false, List, length, is_some, inl, inr, subst, arith}
 use Rattle.descriptor_table.specs.Slots.{Slot, goes, in_list, slot_at, waits_for}
-use Rattle.descriptor_table.specs.Tables.{Turns, aged, is_held_use, place_at, used_for, vacated, MayBecome, IsBack}
+use Rattle.descriptor_table.specs.Tables.{TurnEach, Turns, aged, is_held_use, place_at, used_for, vacated, IsBack}
 use Rattle.descriptor_table.specs.declared.handle.SetHandle.{SetHandle}
 use Rattle.descriptor_table.specs.declared.slot.Use.{Use}
 use Rattle.descriptor_table.specs.declared.slot.Use.TheVariants.{Waits}
@@ -45,21 +45,17 @@ module _ {T : Type 0} where
     pub follows_back : (removed : ℕ → Bool) (max : ℕ) (new : List (Slot T)) (o n : Slot T) → IsBack vacated removed max new o n → Follows o n
     follows_back removed max new o n x5 = grind (arith, common_steps)
 
-    pub follows_left : (new : List (Slot T)) (o n : Slot T) → (MayBecome vacated) new o n → Follows o n
-    follows_left new o n x3 = grind (arith, common_steps)
-
     -- each slot follows, since those that turn do
-    pub follow_turns : (test : Slot T → Bool) (becomes : List (Slot T) → Slot T → Slot T → Type 0) (old new : List (Slot T)) → Turns test becomes old new → ((o n : Slot T) → becomes new o n → Follows o n) → (p : ℕ) → Follows (slot_at old p) (slot_at new p)
-    follow_turns test becomes old new turns each p = grind (arith, common_steps, follows_same)
+    pub follow_turns : {test : Slot T → Bool} {becomes : List (Slot T) → Slot T → Slot T → Type 0} {old new : List (Slot T)} → Turns test becomes old new → ((o n : Slot T) → becomes new o n → Follows o n) → (p : ℕ) → Follows (slot_at old p) (slot_at new p)
+    follow_turns turns each p = grind (arith, common_steps, follows_same)
 
   -- a set waits for the frame
   pub follows_waits : (f : ℕ) (o n : Slot T) → n ≡ used_for (Waits f) o → Follows o n
   follows_waits f o n e = grind (arith, common_steps, placed_use)
 
   -- the slots of handles follow, and so do all others, as they are as they were
-  module _ (handles : List SetHandle) (old new : List (Slot T)) (named : (i : ℕ) → i < length handles → Follows (slot_at old (place_at handles i)) (slot_at new (place_at handles i))) where
-    pub follow_each : ((p : ℕ) → ((i : ℕ) → i < length handles → place_at handles i ≢ p) → slot_at new p ≡ slot_at old p) → (p : ℕ) → Follows (slot_at old p) (slot_at new p)
-    follow_each rest p = elim (named_or (length handles) (place_at handles) p) [
-      | inl found ↦ subst (λ p. Follows (slot_at old p) (slot_at new p)) found.2 (named found.0 found.1)
-      | inr apart ↦ follows_same (slot_at old p) (slot_at new p) (rest p apart)
-    ]
+  pub follow_each : {handles : List SetHandle} {becomes : List (Slot T) → Slot T → Slot T → Type 0} {old new : List (Slot T)} → TurnEach handles becomes old new → ((o n : Slot T) → becomes new o n → Follows o n) → (p : ℕ) → Follows (slot_at old p) (slot_at new p)
+  follow_each {handles} {old = old} {new} turns each p = elim (named_or (length handles) (place_at handles) p) [
+    | inl found ↦ subst (λ p. Follows (slot_at old p) (slot_at new p)) found.2 (each _ _ (turns.named found.0 found.1))
+    | inr apart ↦ follows_same _ _ (turns.rest p apart)
+  ]

@@ -1,6 +1,6 @@
 -- Held sets that are freed by their handles: for `Store::wait_each` and `free_each`.
 use Rattle.std.proofs.lemmas.Grind.{common_steps}
-use Rattle.std.proofs.Common.{arith, ◌≡◌, ℕ, ◌+◌, ◌<◌, Bool, true, false, List, get_or, length, is_some, inl, inr, refl, ap, subst, ◌∙◌}
+use Rattle.std.proofs.Common.{arith, ◌≡◌, ℕ, ◌+◌, ◌<◌, Bool, true, false, List, get_or, length, is_some, inl, inr, refl, rules, ap, subst, ◌∙◌}
 use Rattle.descriptor_table.specs.Sets.{AreHeldOnce, sets_in}
 use Rattle.descriptor_table.specs.Slots.{Slot, goes, slot_at}
 use Rattle.descriptor_table.specs.Tables.{Becomes, IsBack, TurnEach, Turns, place_at, used_for, vacated}
@@ -11,28 +11,22 @@ use Rattle.descriptor_table.proofs.Leaving.{same_sets}
 use Rattle.descriptor_manager.proofs.Back.{given_kept, kept_stays}
 use Rattle.descriptor_manager.proofs.Following.{ArePlaced, none_goes}
 
--- sets that were taken, and then wait
-module _ {T : Type 0} (handles : List SetHandle) (frame : ℕ) (old now new : List (Slot T)) (took : TurnEach handles (Becomes (used_for Taken)) old now) (waits : TurnEach handles (Becomes (used_for (Waits frame))) now new) where
-  pub waited : TurnEach handles (Becomes (used_for (Waits frame))) old new
-  waited = grind (arith, common_steps)
+-- the same sets are there, if each slot that turns has its set still
+pub each_sets : {T : Type 0} {handles : List SetHandle} {becomes : List (Slot T) → Slot T → Slot T → Type 0} {old new : List (Slot T)} → TurnEach handles becomes old new → ((o n : Slot T) → becomes new o n → n.set ≡ o.set) → sets_in new ≡ sets_in old
+each_sets {handles = handles} {old = old} {new} turns same = same_sets old new turns.long (λ p. elim (named_or (length handles) (place_at handles) p) [
+  | inl found ↦ subst (λ p. (slot_at new p).set ≡ (slot_at old p).set) found.2 (same _ _ (turns.named found.0 found.1))
+  | inr apart ↦ ap (λ (s : Slot _). s.set) (turns.rest p apart)
+])
 
-  pub waited_sets : sets_in new ≡ sets_in old
-  waited_sets = same_sets old new waited.long (λ p. elim (named_or (length handles) (place_at handles) p) [
-    | inl found ↦ subst (λ p. (slot_at new p).set ≡ (slot_at old p).set) found.2 (ap (λ (s : Slot T). s.set) (waited.named found.0 found.1))
-    | inr apart ↦ ap (λ (s : Slot T). s.set) (waited.rest p apart)
-  ])
+-- sets that were taken, and then wait
+pub waited : {T : Type 0} {handles : List SetHandle} {frame : ℕ} {old now new : List (Slot T)} → TurnEach handles (Becomes (used_for Taken)) old now → TurnEach handles (Becomes (used_for (Waits frame))) now new → TurnEach handles (Becomes (used_for (Waits frame))) old new
+waited took waits = grind (arith, common_steps)
 
 module _ {T : Type 0} (handles : List SetHandle) (number : ℕ) (removed : ℕ → Bool) (max : ℕ) (old mid : List (Slot T)) where
   -- held sets that settled, if any did, are in their slots still
   pub settled_each : (b : Bool) → (b ≡ true → TurnEach handles (IsBack (used_for Going) removed max) old mid) → (b ≡ false → mid ≡ old) → sets_in mid ≡ sets_in old
   settled_each false settled none = ap sets_in (none refl)
-  settled_each true settled none = same_sets old mid (settled refl).long (λ p. elim (named_or (length handles) (place_at handles) p) [
-    | inl found ↦ subst (λ p. (slot_at mid p).set ≡ (slot_at old p).set) found.2 (elim ((settled refl).named found.0 found.1) [
-      | inl kept ↦ ap (λ (s : Slot T). s.set) kept.0
-      | inr going ↦ ap (λ (s : Slot T). s.set) going.0
-    ])
-    | inr apart ↦ ap (λ (s : Slot T). s.set) ((settled refl).rest p apart)
-  ])
+  settled_each true settled none = each_sets (settled refl) (search rules)
 
   -- those that went were returned
   pub back_each : (new : List (Slot T)) → AreHeldOnce number old handles → TurnEach handles (IsBack (used_for Going) removed max) old mid → ArePlaced old → Turns goes (Becomes vacated) mid new → TurnEach handles (IsBack vacated removed max) old new

@@ -1,7 +1,6 @@
 use Rattle.std.proofs.lemmas.Grind.{common_steps}
 use Rattle.std.proofs.Common.{◌≡◌, ◌<◌, length, refl, ap, ◌∙◌, rules, arith}
 use Rattle.std.proofs.lemmas.List.{length-set}
-use Rattle.descriptor_table.specs.Sets.{sets_in}
 use Rattle.descriptor_table.specs.Slots.{is_kept_of, slot_at}
 use Rattle.descriptor_table.specs.Tables.{renewed, slots_of}
 use Rattle.descriptor_table.specs.declared.handle.SetHandle.{SetHandle}
@@ -20,17 +19,13 @@ handle g c = g.N.SetName.handle_of c.hold_kept.result
 within : (g : Over) (c : After-hold_kept g) → (handle g c).place < length (slots_in c.args.self.now)
 within g c = test_within (is_kept_of c.args.layout) (slots_in c.args.self.now) (handle g c).place refl c.hold_kept.ensures.kept
 
-same_sets : (g : Over) (c : After-hold_kept g) → sets_in (slots_of c.hold_kept.new.self) ≡ sets_in (slots_in c.args.self.now)
-same_sets g c = renewed_sets c.args.self.now.table.number (handle g c).place c.args.used (handle g c) (slots_in c.args.self.now) (slots_of c.hold_kept.new.self) c.hold_kept.ensures.renews
-
 long : (g : Over) (c : After-hold_kept g) → length (slots_of c.hold_kept.new.self) ≡ length (slots_in c.args.self.now)
 long g c = (let old = slots_in c.args.self.now in ap length c.hold_kept.ensures.renews.slots ∙ length-set old (handle g c).place (renewed c.args.used (slot_at old (handle g c).place)))
 
-pub invariant_of-self-clause-exact : goal.invariant_of-self-clause-exact
-invariant_of-self-clause-exact g c = exact_as c.args.self.now (same_sets g (goal.at.invariant_of-self-clause-exact g c).After-hold_kept)
-
-pub invariant_of-self-clause-accounted : goal.invariant_of-self-clause-accounted
-invariant_of-self-clause-accounted g c = accounted_as c.args.self.now (same_sets g (goal.at.invariant_of-self-clause-accounted g c).After-hold_kept)
+pub invariant_of-self : goal.invariant_of-self
+invariant_of-self g c =
+    let same = renewed_sets _ _ _ _ _ _ c.hold_kept.ensures.renews in
+    record { agree = search rules; exact = exact_as c.args.self.now same; accounted = accounted_as c.args.self.now same }
 
 pub returns-clause-holds : goal.returns-clause-holds
 returns-clause-holds g c = search (rules, kept_one, within)

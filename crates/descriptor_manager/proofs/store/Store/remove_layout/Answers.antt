@@ -45,4 +45,4 @@ returns-clause-removes g c =
     }
 
 pub returns-clause-settles : goal.returns-clause-settles
-returns-clause-settles g c = settled _ _ (follow_turns _ _ _ _ (turns g (goal.at.returns-clause-settles g c).After-remove_layout) follows_vacated) (c.give.ensures.coming ∙ c.requires.rest.none_coming) c.requires.rest (search rules)
+returns-clause-settles g c = search (rules, turns, settled, follow_turns, follows_vacated)
