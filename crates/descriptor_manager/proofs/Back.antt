@@ -44,6 +44,13 @@ module _ {T : Type 0} where
   pub kept_out : (layout : ℕ) (old new : List (Slot T)) → Turns (is_kept_of layout) (Becomes vacated) old new → (p : ℕ) → is_kept_of layout (slot_at new p) ≡ false
   kept_out layout old new turns p = search (rules, group_out)
 
+  -- a kept set goes if none is kept later, and was returned
+  kept_returned : (a b new : List (Slot T)) → Turns is_kept (MayBecome (used_for Going)) a b → ((layout : ℕ) → count (is_in (layout + 2)) b ≤ 0) → Turns goes (Becomes vacated) b new → (p : ℕ) → is_kept (slot_at a p) ≡ true → slot_at new p ≡ vacated (slot_at a p)
+  kept_returned a b new trims few gives p kept = elim (trims.here p kept) [
+    | inl same ↦ absurd (let k = (slot_at a p).layout in let out = count_none (is_in (k + 2)) b refl (let f = few k in omega arith) p in true≢false (sym kept ∙ ap (is_in (k + 2)) (sym same) ∙ out))
+    | inr leaves ↦ gives.here p (ap goes leaves ∙ kept_full (slot_at a p) kept) ∙ ap vacated leaves
+  ]
+
   -- a cleanup in three steps: no set is kept later, the kept ones go, and those that go were returned
   pub cleaned : (old a b new : List (Slot T)) → ArePlaced old → Turns (λ s. true) (Becomes aged) old a → Turns is_kept (MayBecome (used_for Going)) a b → ((layout : ℕ) → count (is_in (layout + 2)) b ≤ 0) → Turns goes (Becomes vacated) b new → AreCleaned old new
   cleaned old a b new placed aged_all trims few gives = record {
@@ -55,16 +62,7 @@ module _ {T : Type 0} where
       -- a slot whose set isn't kept is aged; a kept one is aged, goes, and is returned
       by_test : (p : ℕ) → (c : Bool) → is_kept (slot_at old p) ≡ c → slot_at new p ≡ (if is_kept (slot_at old p) then vacated (aged (slot_at old p)) else aged (slot_at old p))
       by_test p false e = search (rules, none_goes)
-      by_test p true e =
-          let here = aged_all.here p refl in
-          let kept : is_kept (slot_at a p) ≡ true = ap is_kept here ∙ e in
-          let leaves : slot_at b p ≡ used_for Going (slot_at a p) = elim (trims.here p kept) [
-            | inl same ↦ absurd (let k = (slot_at a p).layout in let out = count_none (is_in (k + 2)) b refl (let f = few k in omega arith) p in true≢false (sym kept ∙ ap (is_in (k + 2)) (sym same) ∙ out))
-            | inr going ↦ going
-          ] in
-          let full = kept_full (slot_at a p) kept in
-          let gone : slot_at new p ≡ vacated (slot_at b p) = gives.here p (ap goes leaves ∙ full) in
-          gone ∙ ap vacated (leaves ∙ ap (used_for Going) here) ∙ sym (ap (λ c. if c then vacated (aged (slot_at old p)) else aged (slot_at old p)) e)
+      by_test p true e = let here = aged_all.here p refl in let back = kept_returned a b new trims few gives p (ap is_kept here ∙ e) in search rules
 
   -- and so each slot follows what it was
   pub follow_cleaned : (old new : List (Slot T)) → AreCleaned old new → (p : ℕ) → Follows (slot_at old p) (slot_at new p)
@@ -123,12 +121,7 @@ module _ {T : Type 0} (a b c d new : List (Slot T)) (placed : ArePlaced a) (wait
       let out = kept_apart s.used s.layout s.generation (is_some s.set) e in
       let one : slot_at b p ≡ s = wait.rest p out.0 in
       let two : slot_at c p ≡ s = leave.rest p (ap holds one ∙ out.1) ∙ one in
-      let kept : is_kept (slot_at c p) ≡ true = ap is_kept two ∙ e in
-      let three : slot_at d p ≡ used_for Going s = elim (trims.here p kept) [
-        | inl same ↦ absurd (let k = s.layout in let none = count_none (is_in (k + 2)) d refl (let f = few k in omega arith) p in true≢false (sym e ∙ ap (is_in (k + 2)) (sym (same ∙ two)) ∙ none))
-        | inr leaves ↦ leaves ∙ ap (used_for Going) two
-      ] in
-      given p s (kept_full s e) three
+      kept_returned c d new trims few gives p (ap is_kept two ∙ e) ∙ ap vacated two
 
   -- so each set of a store at rest left its slot
   pub all_leave : Turns (λ s. is_some s.set) (Becomes vacated) a new

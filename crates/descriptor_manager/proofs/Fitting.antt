@@ -1,7 +1,6 @@
 -- Names that fit the sets in their slots, while other names are made: for `Store::hold_kept`, `hold_coming` and `allocate_with_new`.
-use Rattle.std.proofs.Common.{◌≡◌, ℕ, zero, suc, ◌+◌, ◌-◌, ◌<◌, true, List, [], ◌∷◌, ◌++◌, length, get_or, map, set, take, inl, inr, refl, sym, ap, subst, ◌∙◌, add-one, arith}
+use Rattle.std.proofs.Common.{◌≡◌, ℕ, zero, suc, ◌+◌, ◌-◌, ◌<◌, true, List, [], ◌∷◌, ◌++◌, length, get_or, map, set, take, inl, inr, refl, sym, ap, subst, ◌∙◌, add-one, take-suc-set, arith}
 use Rattle.std.proofs.lemmas.Bool.{cases_lt}
-use Rattle.std.proofs.Math.Seq.{take-suc-set}
 use Rattle.std.proofs.lemmas.List.{get_or-append_right, get_or_append_left, get_or_default, length-append, take-map}
 use Rattle.descriptor_table.specs.Sets.{AllFit}
 use Rattle.descriptor_table.specs.Slots.{Slot, frame_of, is_live, slot_at}

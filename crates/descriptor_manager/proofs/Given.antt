@@ -1,6 +1,5 @@
 -- Sets that come into slots, or are taken out of a list; returned sets are counted, and what becomes of all if there are none.
-use Rattle.std.proofs.Common.{◌≡◌, ℕ, zero, suc, ◌+◌, List, [], ◌∷◌, length, set, refl, ap, ◌∙◌, arith, false, Bool, None, sym}
-use Rattle.std.proofs.lemmas.Bool.{false≢true}
+use Rattle.std.proofs.Common.{◌≡◌, ℕ, zero, suc, ◌+◌, List, [], ◌∷◌, length, set, refl, ap, ◌∙◌, arith, false, Bool, None, true≢false, sym}
 use Rattle.std.specs.Iterator.{Yields, YieldsThen}
 use Rattle.gpu_descriptor_types.specs.declared.device.DescriptorDevice.{Ghosts}
 use Rattle.gpu_descriptor_types.specs.Ledger.{Ledger}
@@ -87,4 +86,4 @@ returns_none means old before = record { back = gives_none means old before; key
 
 -- no set passes the test, and so none leaves
 pub none_turns : {T : Type 0} (test : Slot T → Bool) (slots : List (Slot T)) → ((p : ℕ) → test (slot_at slots p) ≡ false) → Turns test (Becomes vacated) slots slots
-none_turns test slots none = record { long = refl; rest = λ p out. refl; here = λ p passes. absurd (false≢true (sym (none p) ∙ passes)) }
+none_turns test slots none = record { long = refl; rest = λ p out. refl; here = λ p passes. absurd (true≢false (sym passes ∙ none p)) }

@@ -2,9 +2,8 @@
 -- The slots are `old` before the handles `a` are given, `mid` between, and `new` after the handles `b`; `x` and `y` say so of `a` and `b`.
 -- Handles are written into a list `now`, of which the first are given: those before the place `n`.
 use Rattle.std.proofs.lemmas.Grind.{common_steps}
-use Rattle.std.proofs.Common.{◌≡◌, ◌≢◌, ℕ, ◌+◌, ◌-◌, ◌<◌, ◌⊎◌, ◌||◌, Bool, true, List, [], ◌∷◌, ◌++◌, length, get_or, Some, is_some, IsSome, inl, inr, refl, sym, ap, subst, ◌∙◌, add-one, arith, set, take, rules}
-use Rattle.std.proofs.lemmas.Bool.{cases_lt, false≢true}
-use Rattle.std.proofs.Math.Seq.{take-suc-set}
+use Rattle.std.proofs.Common.{◌≡◌, ◌≢◌, ℕ, ◌+◌, ◌-◌, ◌<◌, ◌⊎◌, ◌||◌, Bool, true, List, [], ◌∷◌, ◌++◌, length, get_or, Some, is_some, IsSome, inl, inr, refl, sym, ap, subst, ◌∙◌, add-one, arith, set, take, take-suc-set, true≢false, rules}
+use Rattle.std.proofs.lemmas.Bool.{cases_lt}
 use Rattle.std.proofs.lemmas.List.{get_or-append-add, get_or_append_left, length-append}
 use Rattle.gpu_descriptor_types.specs.declared.device.DescriptorDevice.{Ghosts}
 use Rattle.gpu_descriptor.specs.declared.set.DescriptorSet.{DescriptorSet}
@@ -27,7 +26,7 @@ spot a b i lt = grind (arith, common_steps, cases_lt i (length a), length-append
 module _ {T : Type 0} where
   -- a slot in a use with a handle isn't free
   used_not_free : (u : Use) (s : Slot T) → is_live (frame_of u) true u ≡ true → s.used ≡ u → is_some s.set ≡ true → is_free s ≡ true → ⊥
-  used_not_free u s live is full free = search (rules, false≢true, free_is)
+  used_not_free u s live is full free = search (rules, true≢false, free_is)
 
   pub hold_none : (number : ℕ) (layout : ℕ) (u : Use) (old : List (Slot T)) → HoldEach number layout u [] old old
   hold_none number layout u old = search rules

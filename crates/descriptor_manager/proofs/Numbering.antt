@@ -1,7 +1,7 @@
 -- Layouts that come under numbers: for `SetManager::add_layout` and `add_number`. `layouts` are the slots of layouts before, `more` those after.
 use Rattle.std.proofs.lemmas.Grind.{common_steps}
-use Rattle.std.proofs.Common.{false, true, ◌≡◌, ◌≢◌, ◌<◌, ◌≤◌, ◌&&◌, ℕ, Bool, [], ◌∷◌, List, Option, None, Some, is_some, length, slice_index_or, if◌then◌else◌, refl, sym, ap, ◌∙◌, subst, inl, inr, arith, rules, eq-eqb, ne_eqb}
-use Rattle.std.proofs.lemmas.Bool.{false≢true}
+use Rattle.std.proofs.Common.{true≢false, false, true, ◌≡◌, ◌≢◌, ◌<◌, ◌≤◌, ◌&&◌, ℕ, Bool, [], ◌∷◌, List, Option, None, Some, is_some, length, slice_index_or, if◌then◌else◌, refl, sym, ap, ◌∙◌, subst, inl, inr, arith, rules, eq-eqb, ne_eqb}
+use Rattle.std.proofs.Math.Bool.{and-false}
 use Rattle.std.proofs.lemmas.List.{get_or_past}
 use Rattle.gpu_descriptor_types.specs.declared.device.DescriptorDevice.{Ghosts}
 use Rattle.gpu_descriptor.specs.declared.layout.SetLayout.{SetLayout}
@@ -48,12 +48,9 @@ module _ {L P S D : Type 0} {d : Ghosts D L P S} {layouts : List (Slot (SetLayou
   -- no set is of the next number
   pub next_unused : (s : Store L P S D d) → HasSetsOf layouts manager s → (p : ℕ) → is_set_of (length layouts) (slot_at (slots_in s) p) ≡ false
   next_unused s was p = elim (below_or p (length (slots_in s))) [
-    | inl within ↦ (let o = slot_at (slots_in s) p in ap (λ b. is_some o.set && b) (ne_eqb o.layout (length layouts) (λ e. let there = (s.table.sound.known p within).there in let same = was.numbers in omega arith)) ∙ and_none (is_some o.set))
+    | inl within ↦ (let o = slot_at (slots_in s) p in ap (λ b. is_some o.set && b) (ne_eqb o.layout (length layouts) (λ e. let there = (s.table.sound.known p within).there in let same = was.numbers in omega arith)) ∙ and-false (is_some o.set))
     | inr past ↦ ap (is_set_of (length layouts)) (past_end (slots_in s) p past)
   ]
-    where
-      and_none : (b : Bool) → (b && false) ≡ false
-      and_none x0 = grind (arith, common_steps)
 
 -- no layout was removed past the last one
 pub past_there : {T : Type 0} (t : SetTable T) (n : ℕ) → layouts_of t ≤ n → removed_of t n ≡ false
@@ -81,7 +78,7 @@ gone (Some x) some = absurd (some x refl)
 
 -- the number of a removed layout has none now
 pub number_left : {L P S D : Type 0} {d : Ghosts D L P S} (layouts : List (Slot (SetLayout L))) (manager : ℕ) (s : Store L P S D d) (n : ℕ) → removed_in s n ≡ true → HasSetsOf layouts manager s → (slot_at layouts n).set ≡ None
-number_left layouts manager s n removed was = gone (slot_at layouts n).set (λ x is. false≢true (sym (was.there n (ap is_some is)) ∙ removed))
+number_left layouts manager s n removed was = gone (slot_at layouts n).set (λ x is. true≢false (sym removed ∙ was.there n (ap is_some is)))
 
 -- what is seen of a set manager whose table has other numbers
 pub seen_kept : {L P S D : Type 0} {d : Ghosts D L P S} (r : SetManager L P S D d) (s : Store L P S D d) → KeepsContents r.store s → s.table.keep ≡ r.store.table.keep

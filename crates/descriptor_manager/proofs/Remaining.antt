@@ -1,14 +1,12 @@
 -- What is left after a cleanup, and if no slot has a set: for `SetManager::cleanup` and `shutdown`.
 use Rattle.std.proofs.lemmas.Grind.{common_steps}
 use Rattle.std.proofs.Common.{◌≡◌, ℕ, suc, ◌<◌, ◌&&◌, Bool, true, false, List, [], ◌∷◌, length, None, is_some, refl, ap, ◌∙◌, arith, rules}
+use Rattle.std.proofs.Math.Bool.{and-false}
 use Rattle.descriptor_table.specs.Sets.{joined, sets_in}
 use Rattle.descriptor_table.specs.Slots.{Slot, count, slot_at, waits, waits_for}
 use Rattle.descriptor_table.specs.Tables.{holds, is_held_use}
 use Rattle.descriptor_table.proofs.Counts.{count_none, none_count}
 use Rattle.descriptor_manager.specs.Stores.{AreCleaned, is_placed}
-
-and_none : (b : Bool) → (b && false) ≡ false
-and_none x0 = grind (arith, common_steps)
 
 module _ {T : Type 0} where
   -- no slot has a set
@@ -22,7 +20,7 @@ module _ {T : Type 0} where
 
   -- without a set none is held, and none waits
   pub none_held : (slots : List (Slot T)) → ((p : ℕ) → (slot_at slots p).set ≡ None) → count holds slots ≡ 0
-  none_held slots none = none_count holds slots (λ p. let s = slot_at slots p in ap (λ x. is_held_use s.used && is_some x) (none p) ∙ and_none (is_held_use s.used))
+  none_held slots none = none_count holds slots (λ p. let s = slot_at slots p in ap (λ x. is_held_use s.used && is_some x) (none p) ∙ and-false (is_held_use s.used))
 
   pub none_waits : (slots : List (Slot T)) → ((p : ℕ) → (slot_at slots p).set ≡ None) → count waits slots ≡ 0
-  none_waits slots none = none_count waits slots (λ p. let s = slot_at slots p in ap (λ x. waits_for (λ w. true) s.used && is_some x) (none p) ∙ and_none (waits_for (λ w. true) s.used))
+  none_waits slots none = none_count waits slots (λ p. let s = slot_at slots p in ap (λ x. waits_for (λ w. true) s.used && is_some x) (none p) ∙ and-false (waits_for (λ w. true) s.used))

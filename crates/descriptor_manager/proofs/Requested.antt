@@ -1,6 +1,5 @@
 -- What a request for sets of a layout leaves of a set manager: for `SetManager::allocate_as` and `allocate_into`.
-use Rattle.std.proofs.Common.{◌≡◌, ◌∙◌, ℕ, ◌<◌, true, List, length, slice_index_or, Result, Ok, Err, Some, inl, inr, ap, subst, arith}
-use Rattle.std.proofs.lemmas.Bool.{false≢true}
+use Rattle.std.proofs.Common.{◌≡◌, ◌∙◌, ℕ, ◌<◌, true, List, length, slice_index_or, Result, Ok, Err, Some, inl, inr, sym, ap, subst, true≢false, arith}
 use Rattle.gpu_descriptor_types.specs.Meaning.{IsOfLayout}
 use Rattle.gpu_descriptor_types.specs.declared.device.DescriptorDevice.{Ghosts}
 use Rattle.gpu_descriptor.specs.declared.errors.AllocationError.{AllocationError}
@@ -61,6 +60,6 @@ module _ {L P S D : Type 0} {d : Ghosts D L P S} (r : SetManager L P S D d) (lay
   -- a request for one set is refused only if none is kept
   pub one_refused : {R : Type 0} (u : Use) (handles : List SetHandle) (new : Store L P S D d) (error : AllocationError) → Requests {R = R} known.layout place 1 u handles (Err error) r.store new → IsRefusedAtLast known.layout 1 1 error r.store new
   one_refused u handles new error requests = elim (below_or 0 (kept_of place r.store)) [
-    | inl some ↦ absurd (false≢true (requests.kept (omega arith)).0)
+    | inl some ↦ absurd (true≢false (sym (requests.kept (omega arith)).0))
     | inr none ↦ subst (λ n. IsRefusedAtLast known.layout n 1 error r.store new) (omega arith) requests.refused
   ]

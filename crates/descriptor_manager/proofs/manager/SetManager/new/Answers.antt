@@ -1,7 +1,6 @@
 use Rattle.std.proofs.lemmas.Grind.{common_steps}
 use Rattle.descriptor_table.specs.Tables.{Settings, is_usable}
-use Rattle.std.proofs.Common.{◌≡◌, [], length, sym, ap, ◌∙◌, arith}
-use Rattle.std.proofs.lemmas.Bool.{false≢true}
+use Rattle.std.proofs.Common.{◌≡◌, [], length, true≢false, sym, ap, ◌∙◌, arith}
 use Rattle.std.proofs.lemmas.Option.{none-some}
 use Rattle.descriptor_table.specs.Slots.{slot_at}
 use Rattle.descriptor_manager.specs.LayoutRegistries.{layout_slots}
@@ -16,7 +15,7 @@ invariant_of-result-clause-sets g c =
       rest = store.rest;
       own = λ p x known full here. absurd (none-some x (sym (ap (λ l. (slot_at l p).set) store.slots) ∙ full));
       there = λ n some. ap (λ (s : Settings). s.removed n) store.settings;
-      free = λ n usable. absurd (false≢true (sym (ap (λ l. is_usable (slot_at l n)) none) ∙ usable));
+      free = λ n usable. absurd (true≢false (sym usable ∙ ap (λ l. is_usable (slot_at l n)) none));
       numbers = ap (λ (s : Settings). s.layouts) store.settings ∙ ap length (sym none);
       number = ap (λ (s : Settings). s.number) store.settings;
     }

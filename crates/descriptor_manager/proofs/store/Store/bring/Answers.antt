@@ -1,7 +1,6 @@
 use Rattle.std.proofs.lemmas.Grind.{common_steps}
-use Rattle.std.proofs.Common.{rules, ◌≡◌, ◌≢◌, ℕ, ◌<◌, ap, subst, arith, ◌-◌, ◌∙◌, inl, inr}
-use Rattle.std.specs.Prelude.{IfErr, OnOk, Result}
-use Rattle.std.proofs.lemmas.Bool.{false≢true}
+use Rattle.std.proofs.Common.{rules, ◌≡◌, ◌≢◌, ℕ, ◌<◌, ap, subst, arith, ◌-◌, ◌∙◌, inl, inr, sym, true≢false}
+use Rattle.std.proofs.lemmas.Result.{IfErr-weaker, on_ok_weaker}
 use Rattle.gpu_descriptor_types.specs.declared.device.DescriptorDevice.{Ghosts}
 use Rattle.gpu_descriptor.specs.Caller.Call.{layout_key}
 use Rattle.gpu_descriptor.specs.Model.Load.{set_descriptors}
@@ -15,14 +14,6 @@ use Rattle.descriptor_manager.proofs.Arriving.{none_left}
 use Rattle.descriptor_manager.proofs.store.Store.bring.Goals.{After-cleanup}
 use Rattle.descriptor_manager.proofs.store.Store.bring.Goals as goal
 
--- What holds of a result's value, given the result: for the clauses `IfErr` and `OnOk`.
-
-if_err : {X E : Type 0} (P Q : E → Type 0) (r : Result X E) → IfErr r P → ((e : E) → P e → Q e) → IfErr r Q
-if_err P Q x2 h f = search rules
-
-on_ok : {X E : Type 0} (P Q : Type 0) (r : Result X E) → OnOk r P → (P → Q) → OnOk r Q
-on_ok P Q x2 h f = search rules
-
 -- A request over memory that the table reserved before it, which changed nothing else, and what a refusal and a cleanup leave.
 
 module _ {L P S D : Type 0} {d : Ghosts D L P S} where
@@ -35,29 +26,20 @@ module _ {L P S D : Type 0} {d : Ghosts D L P S} where
     asks_from : (many : ℕ) → Asks layout many mid new → Asks layout many old new
     asks_from many asks = grind (arith, common_steps)
 
-  -- a refusal, and a cleanup
-  cleared :
-      (layout : L) (first last : ℕ) (error : AllocationError) (old refused new : Store L P S D d)
-      → IsRefused layout first error old refused → refused.allocator.limit ≡ old.allocator.limit
-      → ¬ (ExceedsLimitAlone layout last refused) → count is_kept (slots_in refused) ≢ 0
-      → AreCleaned (slots_in refused) (slots_in new) → Cleans refused new → IsCleared layout first last old new
-  cleared layout first last error old refused new is limit fits some cleaned cleans = record {
-    some = (let same = ap (count is_kept) is.slots in let ne = some in omega arith);
-    fits = subst (λ n. ¬ (n < set_descriptors (layout_key d.meaning layout) last)) limit fits;
-    refused = refused;
-    error = error;
-    first_refused = is;
-    cleaned = cleaned;
-    cleans = cleans;
-  }
-
+-- a refusal, and a cleanup
 cleaned_up : (g : _) (c : After-cleanup g) → IsCleared c.args.known.now.layout (c.args.many - kept_of c.args.layout c.args.self.now) c.args.many c.args.self.now c.cleanup.new.self
 cleaned_up g c =
-    cleared _ _ _ _ _ _ _
-    (subst (λ n. IsRefused c.args.known.now.layout (c.args.many - n) c.in-Err.error c.args.self.now c.ask_for.new.self)
-    c.kept_count.ensures.count (refused_from _ _ _ _ c.in_ok-reserve.ensures.contents _ _ c.in-Err.ensures.refused))
-    (c.in-Err.ensures.stays.limit ∙ c.in_ok-reserve.ensures.stays.limit)
-    (λ above. false≢true (c.if-exceeds_limit.ensures.1 above)) (λ e. c.if-kept_total-eq0.false (c.kept_total.ensures ∙ e)) c.cleanup.ensures.cleaned c.cleanup.ensures.cleans
+    let is = subst (λ n. IsRefused c.args.known.now.layout (c.args.many - n) c.in-Err.error c.args.self.now c.ask_for.new.self) c.kept_count.ensures.count (refused_from _ _ _ _ c.in_ok-reserve.ensures.contents _ _ c.in-Err.ensures.refused) in
+    let limit = c.in-Err.ensures.stays.limit ∙ c.in_ok-reserve.ensures.stays.limit in
+    record {
+      some = (let same = ap (count is_kept) is.slots in let kept = c.kept_total.ensures in let ne = c.if-kept_total-eq0.false in omega arith);
+      fits = λ above. true≢false (sym (c.if-exceeds_limit.ensures.1 (omega arith)));
+      refused = c.ask_for.new.self;
+      error = c.in-Err.error;
+      first_refused = is;
+      cleaned = c.cleanup.ensures.cleaned;
+      cleans = c.cleanup.ensures.cleans;
+    }
 
 pub returns-in_err-reserve-in-Err-clause-refused : goal.returns-in_err-reserve-in-Err-clause-refused
 returns-in_err-reserve-in-Err-clause-refused g c =
@@ -71,13 +53,13 @@ pub returns-in_ok-reserve-in-Err-clause-asks : goal.returns-in_ok-reserve-in-Err
 returns-in_ok-reserve-in-Err-clause-asks g c =
     let kept = c.in_ok-reserve-in-Err.ensures.contents in
     let up = cleaned_up g (goal.at.returns-in_ok-reserve-in-Err-clause-asks g c).After-cleanup in
-    on_ok _ _ c.ask_for-in-Err.result c.ask_for-in-Err.ensures.asks (λ asks. inr (c.cleanup.new.self, up, asks_from _ _ _ _ kept _ asks))
+    on_ok_weaker c.ask_for-in-Err.result (λ asks. inr (c.cleanup.new.self, up, asks_from _ _ _ _ kept _ asks)) c.ask_for-in-Err.ensures.asks
 
 pub returns-in_ok-reserve-in-Err-clause-refused : goal.returns-in_ok-reserve-in-Err-clause-refused
 returns-in_ok-reserve-in-Err-clause-refused g c =
     let kept = c.in_ok-reserve-in-Err.ensures.contents in
     let up = cleaned_up g (goal.at.returns-in_ok-reserve-in-Err-clause-refused g c).After-cleanup in
-    if_err _ _ c.ask_for-in-Err.result c.ask_for-in-Err.ensures.refused (λ error refused. record {
+    IfErr-weaker c.ask_for-in-Err.result _ _ (λ error refused. record {
       none = inl (ap (count is_kept) (refused.slots ∙ kept.slots) ∙ none_left _ _ c.cleanup.ensures.cleaned);
       why = inr (c.cleanup.new.self, up, inl (refused_from _ _ _ _ kept _ error refused));
-    })
+    }) c.ask_for-in-Err.ensures.refused

@@ -1,6 +1,5 @@
 use Rattle.std.proofs.lemmas.Grind.{common_steps}
-use Rattle.std.proofs.Common.{◌+◌, ◌∙◌, refl, sym, subst, take, arith}
-use Rattle.std.proofs.lemmas.List.{length-set, take_all}
+use Rattle.std.proofs.Common.{◌+◌, ◌∙◌, refl, sym, subst, take, arith, length-set, take_all}
 use Rattle.descriptor_table.specs.Sets.{AllFit}
 use Rattle.descriptor_table.proofs.Names.{handles_long, handles_written}
 use Rattle.descriptor_manager.specs.Stores.{HoldEach, ComesOf, slots_in}

@@ -1,6 +1,5 @@
 use Rattle.std.proofs.lemmas.Grind.{common_steps}
-use Rattle.std.proofs.Common.{◌≡◌, ◌<◌, length, refl, ap, ◌∙◌, rules, arith}
-use Rattle.std.proofs.lemmas.List.{length-set}
+use Rattle.std.proofs.Common.{◌≡◌, ◌<◌, length, refl, ap, ◌∙◌, rules, arith, length-set}
 use Rattle.descriptor_table.specs.Slots.{is_kept_of, slot_at}
 use Rattle.descriptor_table.specs.Tables.{renewed, slots_of}
 use Rattle.descriptor_table.specs.declared.handle.SetHandle.{SetHandle}
