@@ -6,9 +6,9 @@ use Rattle.descriptor_table.specs.Sets.{AllFit}
 use Rattle.descriptor_table.specs.Slots.{Slot, frame_of, is_live, slot_at}
 use Rattle.descriptor_table.specs.declared.handle.SetName.{Ghosts}
 use Rattle.descriptor_table.specs.declared.slot.Use.{Use}
-use Rattle.descriptor_table.proofs.Names.{handles_long, place_read}
+use Rattle.descriptor_table.proofs.Names.{handles_long, handles_written, place_read}
 use Rattle.descriptor_manager.specs.Stores.{HoldEach}
-use Rattle.descriptor_manager.proofs.Joining.{first}
+use Rattle.descriptor_manager.proofs.Joining.{first, joined}
 
 module _ {N T : Type 0} (n : Ghosts N T) (each : (names : List N) → n.handles_of names ≡ map n.handle_of names) (number layout : ℕ) (u : Use) (live : is_live (frame_of u) true u ≡ true) where
   -- names that are made leave those before them fit
@@ -22,7 +22,7 @@ module _ {N T : Type 0} (n : Ghosts N T) (each : (names : List N) → n.handles_
   ]
 
   -- one name more is made
-  pub fit_more : (names : List N) (i : ℕ) (x : N) (old mid new : List (Slot T)) → i < length names → HoldEach number layout u (take i (n.handles_of names)) old mid → HoldEach number layout u (n.handle_of x ∷ []) mid new → AllFit n.handle_of n.fit mid (take i names) → n.fit x (slot_at new (n.handle_of x).place).set ≡ true → AllFit n.handle_of n.fit new (take (i + 1) (set names i x))
+  fit_more : (names : List N) (i : ℕ) (x : N) (old mid new : List (Slot T)) → i < length names → HoldEach number layout u (take i (n.handles_of names)) old mid → HoldEach number layout u (n.handle_of x ∷ []) mid new → AllFit n.handle_of n.fit mid (take i names) → n.fit x (slot_at new (n.handle_of x).place).set ≡ true → AllFit n.handle_of n.fit new (take (i + 1) (set names i x))
   fit_more names i x old mid new lt a b fits here =
       subst (AllFit n.handle_of n.fit new) (sym (ap (λ m. take m (set names i x)) (add-one i) ∙ take-suc-set names i x lt))
       (fit_both (take i names) (x ∷ []) old mid new
@@ -33,3 +33,15 @@ module _ {N T : Type 0} (n : Ghosts N T) (each : (names : List N) → n.handles_
       one : AllFit n.handle_of n.fit new (x ∷ [])
       one zero d lt = here
       one (suc i) d lt = absurd (omega arith)
+
+  -- and a handle, which is given
+  pub one_more :
+      (names : List N) (i : ℕ) (x : N) (old mid new : List (Slot T)) → i < length names → HoldEach number layout u (take i (n.handles_of names)) old mid → HoldEach number layout u (n.handle_of x ∷ []) mid new
+      → AllFit n.handle_of n.fit mid (take i names) → n.fit x (slot_at new (n.handle_of x).place).set ≡ true
+      → HoldEach number layout u (take (i + 1) (n.handles_of (set names i x))) old new × AllFit n.handle_of n.fit new (take (i + 1) (set names i x))
+  one_more names i x old mid new lt a b fits here =
+      let long = handles_long n each names in
+      let first = handles_written n each names i x (n.handle_of x) refl in (
+        subst (λ l. HoldEach number layout u l old new) (sym (ap (take (i + 1)) first ∙ ap (λ m. take m (set (n.handles_of names) i (n.handle_of x))) (add-one i) ∙ take-suc-set (n.handles_of names) i (n.handle_of x) (omega arith))) (joined number layout u live _ _ old mid new a b),
+        fit_more names i x old mid new lt a b fits here,
+      )

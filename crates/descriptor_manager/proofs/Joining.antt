@@ -2,7 +2,7 @@
 -- The slots are `old` before the handles `a` are given, `mid` between, and `new` after the handles `b`; `x` and `y` say so of `a` and `b`.
 -- Handles are written into a list `now`, of which the first are given: those before the place `n`.
 use Rattle.std.proofs.lemmas.Grind.{common_steps}
-use Rattle.std.proofs.Common.{◌≡◌, ◌≢◌, ℕ, ◌+◌, ◌-◌, ◌<◌, ◌⊎◌, ◌||◌, Bool, true, List, [], ◌∷◌, ◌++◌, length, get_or, Some, is_some, IsSome, inl, inr, refl, sym, ap, subst, ◌∙◌, add-one, arith, set, take, take-suc-set, true≢false, rules}
+use Rattle.std.proofs.Common.{◌≡◌, ◌≢◌, ℕ, ◌+◌, ◌-◌, ◌<◌, ◌⊎◌, ◌||◌, Bool, true, List, [], ◌++◌, length, get_or, Some, is_some, IsSome, inl, inr, refl, sym, ap, subst, ◌∙◌, arith, set, take, true≢false, rules}
 use Rattle.std.proofs.lemmas.Bool.{cases_lt}
 use Rattle.std.proofs.lemmas.List.{get_or-append-add, get_or_append_left, length-append}
 use Rattle.gpu_descriptor_types.specs.declared.device.DescriptorDevice.{Ghosts}
@@ -144,20 +144,3 @@ module _ {L P S D : Type 0} {d : Ghosts D L P S} where
     -- none is given yet
     pub held_start : (old : Store L P S D d) → HoldEach old.table.number layout u [] (slots_in old) (slots_in old)
     held_start old = hold_none old.table.number layout u (slots_in old)
-
-    module _ (live : is_live (frame_of u) true u ≡ true) where
-      -- one handle more is given
-      pub held_next :
-          (n : ℕ) (now : List SetHandle) (handle : SetHandle) (old mid new : Store L P S D d) → KeepsStore old mid → n < length now
-          → HoldEach old.table.number layout u (take n now) (slots_in old) (slots_in mid)
-          → HoldEach mid.table.number layout u (handle ∷ []) (slots_in mid) (slots_in new)
-          → HoldEach old.table.number layout u (take (n + 1) (set now n handle)) (slots_in old) (slots_in new)
-      held_next n now handle old mid new stays within a b = search (rules, add-one, held_stays, joined, take-suc-set)
-
-      -- kept sets have the first handles, and others the last ones
-      pub held_both :
-          (first last : List SetHandle) (old mid new : Store L P S D d) → KeepsStore old mid
-          → HoldEach old.table.number layout u first (slots_in old) (slots_in mid)
-          → HoldEach mid.table.number layout u last (slots_in mid) (slots_in new)
-          → HoldEach old.table.number layout u (first ++ last) (slots_in old) (slots_in new)
-      held_both first last old mid new stays a b = search (rules, held_stays, joined)

@@ -1,6 +1,5 @@
 -- What is left after a cleanup, and if no slot has a set: for `SetManager::cleanup` and `shutdown`.
-use Rattle.std.proofs.lemmas.Grind.{common_steps}
-use Rattle.std.proofs.Common.{◌≡◌, ℕ, suc, ◌<◌, ◌&&◌, Bool, true, false, List, [], ◌∷◌, length, None, is_some, refl, ap, ◌∙◌, arith, rules}
+use Rattle.std.proofs.Common.{◌≡◌, ℕ, suc, ◌<◌, ◌&&◌, true, List, [], ◌∷◌, length, None, is_some, refl, ap, ◌∙◌, arith, rules}
 use Rattle.std.proofs.Math.Bool.{and-false}
 use Rattle.descriptor_table.specs.Sets.{joined, sets_in}
 use Rattle.descriptor_table.specs.Slots.{Slot, count, slot_at, waits, waits_for}

@@ -41,21 +41,19 @@ module _ {L P S D : Type 0} {d : Ghosts D L P S} (r : SetManager L P S D d) (lay
         | inr enough ↦ same_clears (slot_at (slots_in r.store) q) (slot_at (slots_in requests.takes.ready) q) (ap (λ s. slot_at (slots_in s) q) (requests.takes.enough enough))
       ]
 
-      pub names_then : is_live r.frame r.is_open u ≡ true → NameEach handles (sets_of r.manager r.frame r.is_open (slots_in r.store)) (sets_of r.manager r.frame r.is_open (slots_in new))
-      names_then live =
-          subst (λ n. NameEach handles (sets_of n r.frame r.is_open (slots_in r.store)) (sets_of n r.frame r.is_open (slots_in new))) r.sets.number
-          (are_named r.store.table.number place u handles (slots_in r.store) (slots_in requests.takes.ready) (slots_in new) clear requests.takes.holds r.frame r.is_open live)
-
-      -- the named sets are of the layout
-      pub own_then : (i : ℕ) (e : SetHandle) (x : DescriptorSet S) → i < length handles → (sets_of r.manager r.frame r.is_open (slots_in new)).set (slice_index_or handles i e) ≡ Some x → IsOfLayout d.meaning known.layout x.raw
-      own_then i e x lt is =
-          let h = slice_index_or handles i e in
-          let p = place_at handles i in
-          let slots = slots_in new in
-          let same = ap (λ (h : SetHandle). h.place) (same_default handles i e (record { manager = 0; place = 0; generation = 0 }) lt) in
-          (sets_then (Ok result) requests).own h.place x known (found_set r.manager r.frame r.is_open slots h x is)
-          (ap (λ n. (slot_at (layout_slots r.layouts) n).set) (ap (λ p. (slot_at slots p).layout) same
-          ∙ came_layout place u (slot_at (slots_in requests.takes.ready) p) (slot_at slots p) (requests.takes.holds.comes i lt)) ∙ here)
+      -- the handles, and no other ones, name something else, and the named sets are of the layout
+      pub come_then :
+          is_live r.frame r.is_open u ≡ true → NameEach handles (sets_of r.manager r.frame r.is_open (slots_in r.store)) (sets_of r.manager r.frame r.is_open (slots_in new))
+          × ((i : ℕ) (e : SetHandle) (x : DescriptorSet S) → i < length handles → (sets_of r.manager r.frame r.is_open (slots_in new)).set (slice_index_or handles i e) ≡ Some x → IsOfLayout d.meaning known.layout x.raw)
+      come_then live = (
+        subst (λ n. NameEach handles (sets_of n r.frame r.is_open (slots_in r.store)) (sets_of n r.frame r.is_open (slots_in new))) r.sets.number
+            (are_named r.store.table.number place u handles (slots_in r.store) (slots_in requests.takes.ready) (slots_in new) clear requests.takes.holds r.frame r.is_open live),
+        λ i e x lt is.
+            let same = ap (λ (h : SetHandle). h.place) (same_default handles i e (record { manager = 0; place = 0; generation = 0 }) lt) in
+            (sets_then (Ok result) requests).own (slice_index_or handles i e).place x known (found_set r.manager r.frame r.is_open (slots_in new) (slice_index_or handles i e) x is)
+            (ap (λ n. (slot_at (layout_slots r.layouts) n).set) (ap (λ p. (slot_at (slots_in new) p).layout) same
+            ∙ came_layout place u (slot_at (slots_in requests.takes.ready) (place_at handles i)) (slot_at (slots_in new) (place_at handles i)) (requests.takes.holds.comes i lt)) ∙ here),
+      )
 
   -- a request for one set is refused only if none is kept
   pub one_refused : {R : Type 0} (u : Use) (handles : List SetHandle) (new : Store L P S D d) (error : AllocationError) → Requests {R = R} known.layout place 1 u handles (Err error) r.store new → IsRefusedAtLast known.layout 1 1 error r.store new

@@ -18,7 +18,7 @@ use Rattle.descriptor_manager.proofs.Arriving.{Clears, arrived, same_clears}
 use Rattle.descriptor_manager.proofs.Bringing.{brought}
 use Rattle.descriptor_manager.proofs.Growing.{grow_from, grow_refused}
 use Rattle.descriptor_manager.proofs.Handing.{refused_arrives}
-use Rattle.descriptor_manager.proofs.Joining.{held_stays, holds_arrives, kept_then, stays_then}
+use Rattle.descriptor_manager.proofs.Joining.{held_stays, holds_arrives, kept_then, stays_then, store_same}
 
 -- the sets that were on their way are in the table if none is any more, and the device wasn't called
 pub gained :
@@ -26,8 +26,27 @@ pub gained :
     → count_of t (items_of d.meaning.set_name (sets_in (slots_in new))) ≡ count_of t (items_of d.meaning.set_name (sets_in (slots_in ready))) + count_of t (items_of d.meaning.set_name ready.coming.items)
 gained {L} {P} {S} {D} {d} ready new side none t = omega (arith, ap (λ (s : Side (Allocations P)). outstanding (state_of d.meaning.pool_name s.value s.ledger) t) side, ap (λ l. count_of t (items_of d.meaning.set_name l)) none, ready.exact t, new.exact t)
 
--- as many were kept
+module _ {L P S D : Type 0} {d : Ghosts D L P S} {R : Type 0} (known : L) (layout many : ℕ) (u : Use) (handles : List SetHandle) (old ready new : Store L P S D d) (rest : IsAtRest old) where
+  -- sets were kept or are on their way, and all have handles
+  from_ready :
+      (result : R) → is_live (frame_of u) true u ≡ true → (many ≤ kept_of layout old → (ready ≡ old) × (side_of new ≡ side_of old) × (length (slots_in new) ≡ length (slots_in old)))
+      → (kept_of layout old < many → AsksAtLast known (many - kept_of layout old) many old ready) → ((q : ℕ) → Clears (slot_at (slots_in old) q) (slot_at (slots_in ready) q))
+      → length (slots_in ready) ≡ length (slots_in old) → KeepsStore old ready → HoldEach ready.table.number layout u handles (slots_in ready) (slots_in new)
+      → ((i : ℕ) → i < length handles → i < kept_of layout ready → is_kept_of layout (slot_at (slots_in ready) (place_at handles i)) ≡ true)
+      → Holds (ComesOf d.meaning known layout) ready new → new.coming.items ≡ [] → Requests known layout many u handles (Ok result) old new
+  from_ready result live enough asks clear long stays holds kept_first keeps none =
+      let held = held_stays layout u handles (slots_in ready) (slots_in new) old ready stays holds in
+      let comes = ComesOf d.meaning known layout in
+      record {
+        takes = record { ready = ready; enough = λ le. (enough le).0; asks = asks; kept_first = kept_first; holds = held; side = keeps.side; gained = gained ready new keeps.side none };
+        kept = λ le. (refl, (enough le).1, (enough le).2);
+        refused = tt;
+        settles = arrived comes old new (holds_arrives old.table.number layout u handles (slots_in old) (slots_in ready) (slots_in new) clear held live comes keeps.sets) none rest (stays_then old ready new stays keeps.stays);
+        grows = grow_from (slots_in old) (slots_in ready) (slots_in new) long keeps.grows;
+      }
+
 module _ {L P S D : Type 0} {d : Ghosts D L P S} {R : Type 0} (known : L) (layout many : ℕ) (u : Use) (handles : List SetHandle) (old new : Store L P S D d) where
+  -- as many were kept
   pub from_kept :
       (result : R) → is_live (frame_of u) true u ≡ true → IsAtRest old → many ≤ kept_of layout old
       → HoldEach old.table.number layout u handles (slots_in old) (slots_in new)
@@ -35,26 +54,9 @@ module _ {L P S D : Type 0} {d : Ghosts D L P S} {R : Type 0} (known : L) (layou
       → length (slots_in new) ≡ length (slots_in old) → Holds NoneComes old new → new.coming.items ≡ old.coming.items
       → Requests known layout many u handles (Ok result) old new
   from_kept result live rest enough holds were_kept long keeps coming =
-      let number = old.table.number in
-      let before = slots_in old in
-      let after = slots_in new in
-      let clear : (q : ℕ) → Clears (slot_at before q) (slot_at before q) = λ q. same_clears (slot_at before q) (slot_at before q) refl in
-      let comes = ComesOf d.meaning known layout in
-      record {
-        takes = record {
-          ready = old;
-          enough = λ le. refl;
-          asks = λ few. absurd (omega arith);
-          kept_first = λ i lt some. were_kept i lt;
-          holds = holds;
-          side = keeps.side;
-          gained = gained old new keeps.side (coming ∙ rest.none_coming);
-        };
-        kept = λ le. (refl, keeps.side, long);
-        refused = tt;
-        settles = arrived comes old new (holds_arrives number layout u handles before before after clear holds live comes (kept_then comes before after after keeps.sets (λ p x e. inl (e, refl)))) (coming ∙ rest.none_coming) rest keeps.stays;
-        grows = keeps.grows;
-      }
+      let sets = kept_then (ComesOf d.meaning known layout) (slots_in old) (slots_in new) (slots_in new) keeps.sets (λ p x e. inl (e, refl)) in
+      from_ready known layout many u handles old old new rest result live (λ le. (refl, keeps.side, long)) (λ few. absurd (omega arith)) (λ q. same_clears _ _ refl) refl (store_same old) holds (λ i lt some. were_kept i lt)
+      (record { side = keeps.side; sets = sets; grows = keeps.grows; stays = keeps.stays }) (coming ∙ rest.none_coming)
 
 module _ {L P S D : Type 0} {d : Ghosts D L P S} {R : Type 0} (known : L) (layout many : ℕ) (u : Use) (old asked : Store L P S D d) (rest : IsAtRest old) (short : kept_of layout old < many) where
   -- the allocator gave the sets that were missing, and all have handles
@@ -66,23 +68,7 @@ module _ {L P S D : Type 0} {d : Ghosts D L P S} {R : Type 0} (known : L) (layou
       → Requests known layout many u handles (Ok result) old new
   from_asked handles result new live stays asks holds kept_first keeps none =
       let brings = brought known layout many old asked short asks in
-      let held = held_stays layout u handles (slots_in asked) (slots_in new) old asked stays holds in
-      let comes = ComesOf d.meaning known layout in
-      record {
-        takes = record {
-          ready = asked;
-          enough = λ enough. absurd (omega arith);
-          asks = λ few. asks;
-          kept_first = kept_first;
-          holds = held;
-          side = keeps.side;
-          gained = gained asked new keeps.side none;
-        };
-        kept = λ enough. absurd (omega arith);
-        refused = tt;
-        settles = arrived comes old new (holds_arrives old.table.number layout u handles (slots_in old) (slots_in asked) (slots_in new) brings.clear held live comes keeps.sets) none rest (stays_then old asked new stays keeps.stays);
-        grows = grow_from (slots_in old) (slots_in asked) (slots_in new) brings.long keeps.grows;
-      }
+      from_ready known layout many u handles old asked new rest result live (λ le. absurd (omega arith)) (λ few. asks) brings.clear brings.long stays holds kept_first keeps none
 
   -- it refused them
   pub from_refused :

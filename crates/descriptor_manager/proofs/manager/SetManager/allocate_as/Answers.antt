@@ -1,7 +1,7 @@
 use Rattle.std.proofs.Common.{◌≡◌, subst, sym, rules}
 use Rattle.descriptor_manager.specs.Stores.{IsRefusedAtLast, handles_in}
 use Rattle.descriptor_manager.proofs.Owned.{if_some, refused_names}
-use Rattle.descriptor_manager.proofs.Requested.{names_then, one_refused, own_then, sets_then}
+use Rattle.descriptor_manager.proofs.Requested.{come_then, one_refused, sets_then}
 use Rattle.descriptor_manager.proofs.manager.SetManager.allocate_as.Goals as goal
 
 pub invariant_of-self-2-clause-sets : goal.invariant_of-self-2-clause-sets
@@ -9,11 +9,8 @@ invariant_of-self-2-clause-sets g c = sets_then c.args.self.now c.args.layout c.
 
 pub returns-in-Ok-clause-creates : goal.returns-in-Ok-clause-creates
 returns-in-Ok-clause-creates g c =
-    let found = sym c.in-Some.ensures.layout in
-    if_some _ _ _ c.in-Some.ensures.layout (record {
-      names = names_then c.args.self.now c.args.layout _ _ c.place.ensures found _ _ _ _ _ c.in-Ok.ensures c.requires.live;
-      own = own_then c.args.self.now c.args.layout _ _ c.place.ensures found _ _ _ _ _ c.in-Ok.ensures;
-    })
+    let come = come_then c.args.self.now c.args.layout _ _ c.place.ensures (sym c.in-Some.ensures.layout) _ _ _ _ _ c.in-Ok.ensures c.requires.live in
+    if_some _ _ _ c.in-Some.ensures.layout (record { names = come.0; own = come.1 })
 
 pub returns-in-Err-clause-refused : goal.returns-in-Err-clause-refused
 returns-in-Err-clause-refused g c = λ error is.

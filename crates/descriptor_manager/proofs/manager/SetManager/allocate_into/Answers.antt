@@ -3,7 +3,7 @@ use Rattle.std.proofs.Common.{length, refl, inl, sym, arith}
 use Rattle.descriptor_table.specs.declared.slot.Use.TheVariants.{Held}
 use Rattle.descriptor_table.proofs.Counts.{count_few}
 use Rattle.descriptor_manager.proofs.Owned.{if_some, refused_names}
-use Rattle.descriptor_manager.proofs.Requested.{names_then, own_then, sets_then}
+use Rattle.descriptor_manager.proofs.Requested.{come_then, sets_then}
 use Rattle.descriptor_manager.proofs.manager.SetManager.allocate_into.Goals as goal
 
 pub invariant_of-self-2-clause-sets : goal.invariant_of-self-2-clause-sets
@@ -11,11 +11,8 @@ invariant_of-self-2-clause-sets g c = sets_then c.args.self.now c.args.layout c.
 
 pub returns-in-Ok-clause-creates : goal.returns-in-Ok-clause-creates
 returns-in-Ok-clause-creates g c =
-    let found = sym c.in-Some.ensures.layout in
-    if_some _ _ _ c.in-Some.ensures.layout (record {
-      names = names_then c.args.self.now c.args.layout _ _ c.place.ensures found _ _ _ _ _ c.in-Ok.ensures.requests refl;
-      own = own_then c.args.self.now c.args.layout _ _ c.place.ensures found _ _ _ _ _ c.in-Ok.ensures.requests;
-    })
+    let come = come_then c.args.self.now c.args.layout _ _ c.place.ensures (sym c.in-Some.ensures.layout) _ _ _ _ _ c.in-Ok.ensures.requests refl in
+    if_some _ _ _ c.in-Some.ensures.layout (record { names = come.0; own = come.1 })
 
 pub returns-in-Err-clause-sets : goal.returns-in-Err-clause-sets
 returns-in-Err-clause-sets g c = grind (arith, common_steps, refused_names c.in-Some.known.now.layout _ (length c.args.sets.now) c.in-Err.error c.args.self.now.store c.allocate_each.new.self c.in-Err.ensures.requests.refused c.args.self.now.manager c.args.self.now.frame c.args.self.now.is_open)

@@ -1,5 +1,4 @@
-use Rattle.std.proofs.lemmas.Grind.{common_steps}
-use Rattle.std.proofs.Common.{◌≡◌, ℕ, ◌<◌, ◌++◌, ◌∙◌, true, length, refl, sym, ap, subst, arith}
+use Rattle.std.proofs.Common.{◌≡◌, ℕ, ◌<◌, ◌++◌, ◌∙◌, true, length, refl, sym, ap, subst, arith, rules}
 use Rattle.std.proofs.lemmas.List.{get_or_append_left, length-append}
 use Rattle.gpu_descriptor.specs.Caller.Sets.{AreOfLayout}
 use Rattle.gpu_descriptor.proofs.request.Passed.{passed}
@@ -12,7 +11,7 @@ use Rattle.descriptor_manager.specs.Stores.{ComesOf, HoldEach, kept_of, slots_in
 use Rattle.descriptor_manager.proofs.Bringing.{Brings, brought}
 use Rattle.descriptor_manager.proofs.Fitting.{fit_both}
 use Rattle.descriptor_manager.proofs.Growing.{grow_more}
-use Rattle.descriptor_manager.proofs.Joining.{held_both, held_stays, kept_then, layout_stays, stays_then}
+use Rattle.descriptor_manager.proofs.Joining.{held_stays, joined, kept_then, layout_stays, stays_then}
 use Rattle.descriptor_manager.proofs.Requests.{from_asked, from_refused}
 use Rattle.descriptor_manager.proofs.store.Store.allocate_with_new.Goals.{After-hold_coming}
 use Rattle.descriptor_manager.proofs.store.Store.allocate_with_new.Goals as goal
@@ -25,7 +24,7 @@ both : (g : _) (c : After-hold_coming g) → g.N.SetName.handles_of (c.hold_kept
 both g c = handles_both g.N.SetName g.met.N.SetName.each c.hold_kept.new.names c.hold_coming.new.names
 
 all_held : (g : _) (c : After-hold_coming g) → HoldEach c.bring.new.self.table.number c.args.layout Held (g.N.SetName.handles_of (c.hold_kept.new.names ++ c.hold_coming.new.names)) (slots_in c.bring.new.self) (slots_in c.hold_coming.new.self)
-all_held g c = grind (arith, common_steps, both, brought, held_both)
+all_held g c = search (rules, both, held_stays, joined)
 
 -- the kept ones have the first handles
 first : (g : _) (c : After-hold_coming g) (i : ℕ) → i < length (g.N.SetName.handles_of (c.hold_kept.new.names ++ c.hold_coming.new.names)) → i < kept_of c.args.layout c.bring.new.self → is_kept_of c.args.layout (slot_at (slots_in c.bring.new.self) (place_at (g.N.SetName.handles_of (c.hold_kept.new.names ++ c.hold_coming.new.names)) i)) ≡ true

@@ -1,11 +1,10 @@
 use Rattle.std.proofs.lemmas.Grind.{common_steps}
-use Rattle.std.proofs.Common.{◌+◌, ◌∙◌, refl, sym, subst, take, arith, length-set, take_all}
+use Rattle.std.proofs.Common.{◌∙◌, subst, arith, length-set, take_all}
 use Rattle.descriptor_table.specs.Sets.{AllFit}
-use Rattle.descriptor_table.proofs.Names.{handles_long, handles_written}
-use Rattle.descriptor_manager.specs.Stores.{HoldEach, ComesOf, slots_in}
-use Rattle.descriptor_manager.proofs.Fitting.{fit_more}
+use Rattle.descriptor_manager.specs.Stores.{ComesOf, slots_in}
+use Rattle.descriptor_manager.proofs.Fitting.{one_more}
 use Rattle.descriptor_manager.proofs.Growing.{grow_more}
-use Rattle.descriptor_manager.proofs.Joining.{held_next, held_start, held_stays, layout_stays, sets_then, stays_then, store_same}
+use Rattle.descriptor_manager.proofs.Joining.{held_start, held_stays, layout_stays, sets_then, stays_then, store_same}
 use Rattle.descriptor_manager.proofs.store.Store.hold_coming.Goals as goal
 
 pub loop-index-init : goal.loop-index-init
@@ -21,14 +20,12 @@ loop-index-preserved g c =
     let i = c.loop-index.index in
     let s = c.args.self.now in
     let new = c.hold_last.new.self in
-    let written = handles_written g.N.SetName g.met.N.SetName.each c.loop-index.names _ _ _ refl in
-    let all = handles_long g.N.SetName g.met.N.SetName.each c.loop-index.names in
+    let here = held_stays _ _ _ _ _ s c.loop-index.self was.stays now.holds in
+    let more = one_more g.N.SetName g.met.N.SetName.each _ _ _ c.requires.live c.loop-index.names i _ _ _ _ (omega arith) was.holds here was.fit now.fits in
     record {
       long = length-set _ _ _ ∙ was.long;
-      holds = subst (λ l. HoldEach s.table.number c.args.layout c.args.used (take (i + 1) l) (slots_in s) (slots_in new))
-          (sym written) (held_next _ _ c.requires.live _ _ _ s c.loop-index.self new was.stays (omega arith) was.holds now.holds);
-      fit = fit_more g.N.SetName g.met.N.SetName.each _ _ _ c.requires.live c.loop-index.names i _ _ _ _ (omega arith) was.holds
-          (held_stays _ _ _ _ _ s c.loop-index.self was.stays now.holds) was.fit now.fits;
+      holds = more.0;
+      fit = more.1;
       fewer = omega arith;
       own = λ known own. now.own known (was.own known own);
       table = now.table;

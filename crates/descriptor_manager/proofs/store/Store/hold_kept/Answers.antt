@@ -1,13 +1,13 @@
 use Rattle.std.proofs.lemmas.Grind.{common_steps}
-use Rattle.std.proofs.Common.{◌≡◌, ℕ, ◌+◌, ◌<◌, ◌∙◌, [], ◌∷◌, true, refl, sym, subst, take, arith, length-set, take_all}
+use Rattle.std.proofs.Common.{◌≡◌, ℕ, ◌+◌, ◌<◌, ◌∙◌, [], ◌∷◌, true, refl, sym, subst, arith, length-set, take_all}
 use Rattle.descriptor_table.specs.Sets.{AllFit}
 use Rattle.descriptor_table.specs.Slots.{is_kept_of, slot_at}
 use Rattle.descriptor_table.specs.Tables.{place_at}
 use Rattle.descriptor_table.proofs.Names.{handles_long, handles_written}
-use Rattle.descriptor_manager.specs.Stores.{HoldEach, NoneComes, slots_in}
-use Rattle.descriptor_manager.proofs.Fitting.{fit_more}
+use Rattle.descriptor_manager.specs.Stores.{NoneComes, slots_in}
+use Rattle.descriptor_manager.proofs.Fitting.{one_more}
 use Rattle.descriptor_manager.proofs.Growing.{grow_more}
-use Rattle.descriptor_manager.proofs.Joining.{held_next, held_start, held_stays, kept_then, stays_then, store_same, were_kept}
+use Rattle.descriptor_manager.proofs.Joining.{held_start, held_stays, kept_then, stays_then, store_same, were_kept}
 use Rattle.descriptor_manager.proofs.store.Store.hold_kept.Goals as goal
 
 pub loop-index-init : goal.loop-index-init
@@ -20,18 +20,18 @@ loop-index-preserved g c =
     let i = c.loop-index.index in
     let s = c.args.self.now in
     let handle = g.N.SetName.handle_of c.hold_next.result in
-    let handles = g.N.SetName.handles_of c.loop-index.names in
     let written = handles_written g.N.SetName g.met.N.SetName.each c.loop-index.names i c.hold_next.result handle refl in
     let all = handles_long g.N.SetName g.met.N.SetName.each c.loop-index.names in
     let lt = c.loop-index-test.true in
     let long = was.long in
+    let here = held_stays c.args.layout c.args.used (handle ∷ []) (slots_in c.loop-index.self) (slots_in c.hold_next.new.self) s c.loop-index.self was.keeps.stays now.holds in
+    let more = one_more g.N.SetName g.met.N.SetName.each s.table.number c.args.layout c.args.used c.requires.live c.loop-index.names i c.hold_next.result (slots_in s) (slots_in c.loop-index.self) (slots_in c.hold_next.new.self) (omega arith) was.holds here was.fit now.fits in
     record {
       long = length-set c.loop-index.names i c.hold_next.result ∙ was.long;
-      holds = subst (λ l. HoldEach s.table.number c.args.layout c.args.used (take (i + 1) l) (slots_in s) (slots_in c.hold_next.new.self)) (sym written)
-          (held_next c.args.layout c.args.used c.requires.live i handles handle s c.loop-index.self c.hold_next.new.self was.keeps.stays (omega arith) was.holds now.holds);
-      fit = fit_more g.N.SetName g.met.N.SetName.each s.table.number c.args.layout c.args.used c.requires.live c.loop-index.names i c.hold_next.result (slots_in s) (slots_in c.loop-index.self) (slots_in c.hold_next.new.self) (omega arith) was.holds (held_stays c.args.layout c.args.used (handle ∷ []) (slots_in c.loop-index.self) (slots_in c.hold_next.new.self) s c.loop-index.self was.keeps.stays now.holds) was.fit now.fits;
+      holds = more.0;
+      fit = more.1;
       were_kept = subst (λ l. (j : ℕ) → j < i + 1 → is_kept_of c.args.layout (slot_at (slots_in s) (place_at l j)) ≡ true) (sym written)
-          (were_kept s.table.number c.args.used c.args.layout i handles handle (slots_in s) (slots_in c.loop-index.self) c.requires.live (omega arith) was.holds was.were_kept now.was_kept);
+          (were_kept s.table.number c.args.used c.args.layout i (g.N.SetName.handles_of c.loop-index.names) handle (slots_in s) (slots_in c.loop-index.self) c.requires.live (omega arith) was.holds was.were_kept now.was_kept);
       fewer = (let a = was.fewer in let b = now.fewer in omega arith);
       as_many = now.as_many ∙ was.as_many;
       table = λ n room. now.table n (was.table n room);
