@@ -2,7 +2,7 @@
 use Rattle.std.proofs.lemmas.Grind.{common_steps}
 use Rattle.std.proofs.Common.{◌≡◌, ◌≢◌, ℕ, ◌<◌, true, false, List, [], ◌∷◌, set, Option, None, Some, IsSome, inl, inr, refl, sym, ap, subst, ◌∙◌, arith, rules}
 use Rattle.std.proofs.lemmas.Option.{same_Some}
-use Rattle.descriptor_table.specs.Sets.{AreHeldOnce, LoseNames, NameEach, is_held, sets_of}
+use Rattle.descriptor_table.specs.Sets.{LoseNames, NameEach, is_held, sets_of}
 use Rattle.descriptor_table.specs.Slots.{Slot, is_live, slot_at}
 use Rattle.descriptor_table.specs.Tables.{Puts, Renews, place_at, renewed, vacated}
 use Rattle.descriptor_table.specs.declared.handle.SetHandle.{SetHandle}
@@ -38,15 +38,11 @@ module _ {T : Type 0} {number p : ℕ} {x : T} {handle : SetHandle} {old mid new
 
 -- a layout that leaves its slot
 module _ {T : Type 0} (number : ℕ) (h : SetHandle) (old new : List (Slot T)) where
-  -- the list of the one handle has held sets, each once
-  only_held : is_held number old h ≡ true → AreHeldOnce number old (h ∷ [])
-  only_held held = grind (arith, common_steps)
-
   pub left_names : is_held number old h ≡ true → new ≡ set old h.place (vacated (slot_at old h.place)) → LoseNames (h ∷ []) (sets_of number 0 false old) (sets_of number 0 false new)
   left_names held made =
       let quiet : (i : ℕ) → i < 1 → _ = λ i lt. ap (λ (s : Slot T). is_live 0 false s.used) (here i lt) in
       let generation : (i : ℕ) → i < 1 → _ = λ i lt. ap (λ (s : Slot T). s.generation) (here i lt) in
-      names_lost number 0 false (h ∷ []) old new (only_held held) quiet generation (λ p apart. ap (λ l. slot_at l p) made ∙ other_slots old h.place (vacated (slot_at old h.place)) p (λ e. apart 0 (omega arith) (sym e)))
+      names_lost number 0 false (h ∷ []) old new (grind (arith, common_steps)) quiet generation (λ p apart. ap (λ l. slot_at l p) made ∙ other_slots old h.place (vacated (slot_at old h.place)) p (λ e. apart 0 (omega arith) (sym e)))
     where
       here : (i : ℕ) → i < 1 → slot_at new (place_at (h ∷ []) i) ≡ vacated (slot_at old (place_at (h ∷ []) i))
       here x0 lt = grind (arith, common_steps)

@@ -1,11 +1,11 @@
 -- What a slot is like after all kept sets went (`Clears`), and what slots may become when sets come to them (`Arrives`).
 use Rattle.std.proofs.lemmas.Grind.{common_steps}
-use Rattle.std.proofs.Common.{◌≡◌, ℕ, ◌⊎◌, ne_eqb, Bool, true, if◌then◌else◌, List, None, refl, rules, ◌+◌, ◌&&◌, ◌||◌, not, [], Option, Some, is_some, inl, sym, subst, arith}
+use Rattle.std.proofs.Common.{◌≡◌, ℕ, ◌⊎◌, ne_eqb, Bool, true, List, None, refl, rules, ◌+◌, ◌&&◌, ◌||◌, not, [], Option, Some, is_some, inl, sym, subst, arith}
 use Rattle.std.proofs.lemmas.Option.{none-some}
 use Rattle.gpu_descriptor_types.specs.declared.device.DescriptorDevice.{Ghosts}
 use Rattle.gpu_descriptor.specs.declared.set.DescriptorSet.{DescriptorSet}
 use Rattle.descriptor_table.specs.Slots.{Slot, count, slot_at, in_list, waits_for}
-use Rattle.descriptor_table.specs.Tables.{aged, is_kept, vacated, is_held_use}
+use Rattle.descriptor_table.specs.Tables.{is_kept, is_held_use}
 use Rattle.descriptor_table.specs.declared.slot.Use.TheVariants.{Vacant}
 use Rattle.descriptor_table.specs.declared.slot.Use.{Use}
 use Rattle.descriptor_table.proofs.Counts.{none_count}
@@ -22,12 +22,8 @@ module _ {T : Type 0} where
   pub same_clears : (o n : Slot T) → n ≡ o → Clears o n
   same_clears o n e = search rules
 
-  -- a slot after a cleanup, by whether its set was kept (`b`)
-  cleared_as : (o n : Slot T) (b : Bool) → is_kept o ≡ b → n ≡ (if b then vacated (aged o) else aged o) → Clears o n
-  cleared_as o n x2 kept e = search rules
-
   pub clears : (old new : List (Slot T)) → AreCleaned old new → (p : ℕ) → Clears (slot_at old p) (slot_at new p)
-  clears old new c p = cleared_as (slot_at old p) (slot_at new p) (is_kept (slot_at old p)) refl (c.here p refl)
+  clears old new c p = grind (arith, common_steps, c.here p refl)
 
   -- no set is kept then
   pub none_left : (old new : List (Slot T)) → AreCleaned old new → count is_kept new ≡ 0
@@ -44,8 +40,8 @@ module _ {T : Type 0} where
   placed_in u o layout generation = not (is_some o) || ((is_held_use u && is_some o) || ((waits_for (λ w. true) u && is_some o) || in_list (layout + 2) u layout generation (is_some o)))
 
   -- a set that is held, or waits for a frame, is placed
-  pub used_placed : (s : Slot T) (x : T) → s.set ≡ Some x → (is_held_use s.used || waits_for (λ w. true) s.used) ≡ true → is_placed s ≡ true
-  used_placed s x full e = grind (arith, common_steps, placed_in)
+  pub used_placed : (s : Slot T) → is_some s.set ≡ true → (is_held_use s.used || waits_for (λ w. true) s.used) ≡ true → is_placed s ≡ true
+  used_placed s full e = grind (arith, common_steps, placed_in)
 
   module _ (comes : ℕ → T → Type 0) where
     -- changes of a slot that `Arrives` allows: by a cleanup, one after another, and none

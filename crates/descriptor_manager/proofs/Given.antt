@@ -69,16 +69,13 @@ module _ {S : Type 0} (name : S → ℕ) where
       ≡ count_of t (items_of name xs) + count_of t (items_of name (sets_in (slots_of u.table.now)))
   given_count xs s u y t = omega (arith, given_weigh (weight name t) xs s u y, counts name t (sets_in (slots_of s.table.now)), counts name t xs, counts name t (sets_in (slots_of u.table.now)))
 
-given_many : {S : Type 0} (xs : List (DescriptorSet S)) (s u : Giving (DescriptorSet S)) → Yields GivesNext s xs u → length (sets_in (slots_of s.table.now)) ≡ length xs + length (sets_in (slots_of u.table.now))
-given_many xs s u y = omega (arith, given_weigh (λ x. 1) xs s u y, tally_length (sets_in (slots_of s.table.now)), tally_length xs, tally_length (sets_in (slots_of u.table.now)))
-
 -- an iterator gave sets to its end
 module _ {S : Type 0} (xs : List (DescriptorSet S)) (s u : Giving (DescriptorSet S)) (d : YieldsThen GivesNext s xs None u) where
   pub all_count : (name : S → ℕ) (t : Item) → count_of t (items_of name (sets_in (slots_of s.table.now))) ≡ count_of t (items_of name xs) + count_of t (items_of name (sets_in (slots_of u.table.now)))
   all_count name t = given_count name xs s d.0 d.1 t ∙ ap (λ l. count_of t (items_of name xs) + count_of t (items_of name (sets_in l))) (sym d.2.gives.slots.slots)
 
   pub all_many : length (sets_in (slots_of s.table.now)) ≡ length xs + length (sets_in (slots_of u.table.now))
-  all_many = given_many xs s d.0 d.1 ∙ ap (λ l. length xs + length (sets_in l)) (sym d.2.gives.slots.slots)
+  all_many = omega (arith, given_weigh (λ x. 1) xs s d.0 d.1, tally_length (sets_in (slots_of s.table.now)), tally_length xs, tally_length (sets_in (slots_of d.0.table.now))) ∙ ap (λ l. length xs + length (sets_in l)) (sym d.2.gives.slots.slots)
 
 -- no set is returned
 pub returns_none : {L P S : Type 0} (means : Meaning L P S) (old : Allocations P) (before : Ledger) → Returns means [] (side old before) (side old before)

@@ -2,7 +2,6 @@
 use Rattle.std.proofs.lemmas.Grind.{common_steps}
 use Rattle.std.proofs.Common.{◌≡◌, ◌⊎◌, ℕ, true, false, List, length, inl, inr, ap, ◌∙◌, arith, rules}
 use Rattle.gpu_descriptor_types.specs.declared.device.DescriptorDevice.{Ghosts}
-use Rattle.gpu_descriptor.specs.declared.errors.AllocationError.{AllocationError}
 use Rattle.descriptor_table.specs.Slots.{Slot, frame_of, is_live, slot_at}
 use Rattle.descriptor_table.specs.Tables.{AreAllUsed, Grows, Puts, Renews, is_usable, renewed}
 use Rattle.descriptor_table.specs.declared.handle.SetHandle.{SetHandle}
@@ -11,9 +10,9 @@ use Rattle.descriptor_table.proofs.Chains.{live_no_list}
 use Rattle.descriptor_table.proofs.Counting.{same_or}
 use Rattle.descriptor_table.proofs.Holding.{named_or}
 use Rattle.descriptor_table.proofs.Listed.{other_slots, slot_set}
-use Rattle.descriptor_manager.specs.Stores.{HoldEach, IsCleared, IsRefusedAtLast, slots_in}
+use Rattle.descriptor_manager.specs.Stores.{HoldEach, IsCleared, slots_in}
 use Rattle.descriptor_manager.specs.declared.store.Store.{Store}
-use Rattle.descriptor_manager.proofs.Handing.{came_used, unmet_slots}
+use Rattle.descriptor_manager.proofs.Handing.{came_used}
 
 module _ {T : Type 0} where
   -- a new set gets a handle
@@ -27,14 +26,6 @@ module _ {T : Type 0} where
   pub grow_more : (number : ℕ) (layout : ℕ) (u : Use) (handles : List SetHandle) (old mid new : List (Slot T)) → is_live (frame_of u) true u ≡ true → Grows old mid → Grows mid new → HoldEach number layout u handles mid new → Grows old new
   grow_more number layout u handles old mid new live first last holding = search (rules, came_used, live_no_list, named_or)
 
-  -- a step that left as many slots, before others
-  pub grow_from : (old mid new : List (Slot T)) → length mid ≡ length old → Grows mid new → Grows old new
-  grow_from old mid new same grows = grind (arith, common_steps)
-
 module _ {L P S D : Type 0} {d : Ghosts D L P S} where
   pub cleared_long : (layout : L) (first last : ℕ) (old new : Store L P S D d) → IsCleared layout first last old new → length (slots_in new) ≡ length (slots_in old)
   cleared_long layout first last old new clear = clear.cleaned.long ∙ ap length clear.first_refused.slots
-
-  -- a refusal leaves as many slots
-  pub grow_refused : (layout : L) (first last : ℕ) (error : AllocationError) (old new : Store L P S D d) → IsRefusedAtLast layout first last error old new → Grows (slots_in old) (slots_in new)
-  grow_refused layout first last error old new refused = grind (arith, common_steps, cleared_long, unmet_slots)

@@ -16,7 +16,7 @@ use Rattle.descriptor_table.proofs.Holding.{named_or}
 use Rattle.descriptor_manager.specs.Stores.{ComesInto, HoldEach, KeepsStore, NoneComes, SetsCome, slots_in}
 use Rattle.descriptor_manager.specs.declared.store.Store.{Store}
 use Rattle.descriptor_manager.proofs.Arriving.{Arrives, Clears, arrives_then, clears_arrives, same_arrives, used_placed}
-use Rattle.descriptor_manager.proofs.Handing.{came_free, came_full, came_next, came_used, some_of}
+use Rattle.descriptor_manager.proofs.Handing.{came_free, came_full, came_next, came_used}
 use Rattle.descriptor_manager.proofs.Naming.{free_is, is_free, given_apart, given_clear, next_of, seen_apart, seen_clear, seen_free, seen_next}
 
 -- a place of two lists is one of the first, or of the second
@@ -27,9 +27,6 @@ module _ {T : Type 0} where
   -- a slot in a use with a handle isn't free
   used_not_free : (u : Use) (s : Slot T) → is_live (frame_of u) true u ≡ true → s.used ≡ u → is_some s.set ≡ true → is_free s ≡ true → ⊥
   used_not_free u s live is full free = search (rules, true≢false, free_is)
-
-  pub hold_none : (number : ℕ) (layout : ℕ) (u : Use) (old : List (Slot T)) → HoldEach number layout u [] old old
-  hold_none number layout u old = search rules
 
   module _ (number : ℕ) (layout : ℕ) (u : Use) (live : is_live (frame_of u) true u ≡ true) (a b : List SetHandle) (old mid new : List (Slot T)) (x : HoldEach number layout u a old mid) (y : HoldEach number layout u b mid new) where
     -- no handle of `b` has a place of `a`: the set there is in use by then, and so it is not free
@@ -80,10 +77,9 @@ module _ {T : Type 0} where
     holds_arrives live comes sets q = arrives_then comes (slot_at old q) (slot_at mid q) (slot_at new q) (clears_arrives comes (slot_at old q) (slot_at mid q) (clear q)) (elim (named_or (length handles) (place_at handles) q) [
       | inl found ↦
           let came = subst (λ q. ComesInto layout u (slot_at mid q) (slot_at new q)) found.2 (x.comes found.0 found.1) in
-          let full = some_of (slot_at new q).set (came_full layout u (slot_at mid q) (slot_at new q) came) in
           record {
             set = sets q;
-            placed = λ was. used_placed (slot_at new q) full.0 full.1 (ap (λ u. is_held_use u || waits_for (λ w. true) u) (came_used layout u (slot_at mid q) (slot_at new q) came) ∙ live_placed u live);
+            placed = λ was. used_placed (slot_at new q) (came_full layout u (slot_at mid q) (slot_at new q) came) (ap (λ u. is_held_use u || waits_for (λ w. true) u) (came_used layout u (slot_at mid q) (slot_at new q) came) ∙ live_placed u live);
           }
       | inr none ↦ same_arrives comes (slot_at mid q) (slot_at new q) (x.rest q none)
     ])
@@ -143,4 +139,4 @@ module _ {L P S D : Type 0} {d : Ghosts D L P S} where
 
     -- none is given yet
     pub held_start : (old : Store L P S D d) → HoldEach old.table.number layout u [] (slots_in old) (slots_in old)
-    held_start old = hold_none old.table.number layout u (slots_in old)
+    held_start old = search rules

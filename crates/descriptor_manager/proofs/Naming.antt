@@ -1,12 +1,11 @@
 -- What handles name when sets come to slots, or leave them: for `Joining` and `SetManager::remove_layout`.
 -- `o` is a slot before, `n` the same slot after, and `h` a handle of its place; a handle is *apart* if it isn't the next one of the slot.
 use Rattle.std.proofs.lemmas.Grind.{common_steps}
-use Rattle.std.proofs.Common.{◌≡◌, ◌≢◌, ℕ, ◌+◌, ◌⊎◌, ◌==◌, ◌&&◌, ◌||◌, nat_le, nat_lt, not, Bool, true, if◌then◌else◌, Option, None, is_some, sym, ap, ◌∙◌, arith, eq-eqb, ne_eqb, rules}
+use Rattle.std.proofs.Common.{◌≡◌, ◌≢◌, ℕ, ◌+◌, ◌⊎◌, ◌==◌, ◌&&◌, ◌||◌, nat_le, nat_lt, not, Bool, true, if◌then◌else◌, Option, None, is_some, ap, arith, eq-eqb, ne_eqb, rules}
 use Rattle.std.proofs.lemmas.Bool.{and_left, and_right, cases_eq, cases_lt, le-leb, lt-leb}
-use Rattle.descriptor_table.specs.Slots.{Slot, in_list, is_kept_of, is_live}
+use Rattle.descriptor_table.specs.Slots.{Slot, is_kept_of, is_live}
 use Rattle.descriptor_table.specs.Tables.{is_kept}
 use Rattle.descriptor_table.specs.declared.handle.SetHandle.{SetHandle}
-use Rattle.descriptor_table.specs.declared.slot.Use.{Use}
 use Rattle.descriptor_table.specs.declared.slot.Use.TheVariants.{Kept}
 use Rattle.descriptor_manager.proofs.Arriving.{Clears}
 
@@ -14,13 +13,10 @@ use Rattle.descriptor_manager.proofs.Arriving.{Clears}
 abbrev pub is_free : {T : Type 0} → Slot T → Bool
 is_free s = is_kept s || not (is_some s.set)
 
-kept_use : (k generation : ℕ) (u : Use) (layout : ℕ) (full : Bool) → in_list (k + 2) u layout generation full ≡ true → (u ≡ Kept) × (k ≡ layout)
-kept_use k generation u layout full e = grind (arith, common_steps)
-
 module _ {T : Type 0} where
   -- what is known of a kept set
   pub kept_as : (layout : ℕ) (s : Slot T) → is_kept_of layout s ≡ true → (s.used ≡ Kept) × (s.layout ≡ layout) × (is_kept s ≡ true)
-  kept_as layout s e = (let u = kept_use layout s.generation s.used s.layout (is_some s.set) e in (u.0, sym u.1, ap (λ l. is_kept_of l s) (sym u.1) ∙ e))
+  kept_as layout s e = grind (arith, common_steps)
 
   -- a slot is free if it has no set or a kept one, and only then
   pub free_none : (s : Slot T) → s.set ≡ None → is_free s ≡ true

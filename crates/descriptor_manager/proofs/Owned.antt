@@ -2,10 +2,8 @@
 -- `slots` are those of sets, `layouts` those of layouts, `known` is a layout, and `n` or `number` the number of one.
 -- The last lemma is of the pools of a layout, by the counts and flags that it is known with.
 use Rattle.std.proofs.lemmas.Grind.{common_steps}
-use Rattle.std.proofs.Common.{◌≡◌, ℕ, ◌<◌, ◌⊎◌, Bool, false, true, List, length, Option, Some, None, inl, inr, refl, ap, subst, ◌∙◌, arith, IfSome}
-use Rattle.std.proofs.lemmas.List.{get_or_past}
-use Rattle.std.proofs.lemmas.Option.{none-some, same_Some}
-use Rattle.gpu_descriptor_types.specs.Meaning.{Meaning, IsOfLayout}
+use Rattle.std.proofs.Common.{◌≡◌, ℕ, ◌⊎◌, Bool, false, true, List, length, Option, Some, None, inl, inr, refl, ap, subst, ◌∙◌, arith, IfSome}
+use Rattle.gpu_descriptor_types.specs.Meaning.{IsOfLayout}
 use Rattle.gpu_descriptor_types.specs.declared.device.DescriptorDevice.{Ghosts}
 use Rattle.gpu_descriptor_types.specs.Counts.{kinds}
 use Rattle.gpu_descriptor.specs.declared.errors.AllocationError.{AllocationError}
@@ -19,7 +17,6 @@ use Rattle.descriptor_table.specs.Sets.{Sets, find, sets_of}
 use Rattle.descriptor_table.specs.Slots.{Slot, is_set_of, slot_at}
 use Rattle.descriptor_table.specs.Tables.{Settings, is_usable, layouts_of}
 use Rattle.descriptor_table.specs.declared.handle.SetHandle.{SetHandle}
-use Rattle.descriptor_table.proofs.Counting.{below_or}
 use Rattle.descriptor_table.proofs.Renewing.{vacant_is}
 use Rattle.descriptor_manager.specs.LayoutRegistries.{layout_at, layout_slots, registry_of}
 use Rattle.descriptor_manager.specs.Own.{HasSetsOf}
@@ -32,10 +29,6 @@ use Rattle.descriptor_manager.specs.Managers.{pools_for, seen, side_of}
 use Rattle.descriptor_manager.specs.declared.manager.SetManager.{SetManager}
 use Rattle.descriptor_manager.proofs.Handing.{unmet_slots}
 use Rattle.descriptor_manager.proofs.Showing.{cleaned_names}
-
--- a set that comes is of the layout that has its number
-pub own_comes : {L P S : Type 0} (means : Meaning L P S) (number : ℕ) (layouts : List (Slot (SetLayout L))) (known : SetLayout L) → (slot_at layouts number).set ≡ Some known → (n : ℕ) (x : DescriptorSet S) (other : SetLayout L) → ComesOf means known.layout number n x → (slot_at layouts n).set ≡ Some other → IsOfLayout means other.layout x.raw
-own_comes means number layouts known here n x other comes there = grind (arith, common_steps, same_Some)
 
 module _ {L P S D : Type 0} {d : Ghosts D L P S} where
   -- each number has the layout that it had, or one of which there is no set, or none
@@ -89,11 +82,6 @@ module _ {T : Type 0} where
 
 pub if_some : {X : Type 0} (o : Option X) (x : X) (P : X → Type 0) → Some x ≡ o → P x → IfSome o P
 if_some o x P is holds = subst (λ o. IfSome o P) is holds
-
-module _ {X : Type 0} (layouts : List (Slot X)) (n : ℕ) (x : X) (here : (slot_at layouts n).set ≡ Some x) where
-  -- a layout is in a slot
-  pub layout_within : n < length layouts
-  layout_within = grind (arith, common_steps, below_or, get_or_past, none-some)
 
 -- the layout of a handle is at its place
 pub layout_here : {L P S D : Type 0} {d : Ghosts D L P S} (r : LayoutRegistry L P S D d) (h : LayoutHandle) (known : SetLayout L) (place : ℕ) → place ≡ h.slot.place → layout_at r h ≡ Some known → (slot_at (layout_slots r) place).set ≡ Some known

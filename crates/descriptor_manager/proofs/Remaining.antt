@@ -1,10 +1,11 @@
 -- What is left after a cleanup, and if no slot has a set: for `SetManager::cleanup` and `shutdown`.
-use Rattle.std.proofs.Common.{◌≡◌, ℕ, suc, ◌<◌, ◌&&◌, true, List, [], ◌∷◌, length, None, is_some, refl, ap, ◌∙◌, arith, rules}
+use Rattle.std.proofs.Common.{◌≡◌, ℕ, suc, ◌<◌, ◌&&◌, true, List, [], ◌∷◌, length, None, is_some, refl, ap, ◌∙◌, arith, rules, Bool}
 use Rattle.std.proofs.Math.Bool.{and-false}
 use Rattle.descriptor_table.specs.Sets.{joined, sets_in}
-use Rattle.descriptor_table.specs.Slots.{Slot, count, slot_at, waits, waits_for}
-use Rattle.descriptor_table.specs.Tables.{holds, is_held_use}
+use Rattle.descriptor_table.specs.Slots.{Slot, count, slot_at, waits}
+use Rattle.descriptor_table.specs.Tables.{holds}
 use Rattle.descriptor_table.proofs.Counts.{count_none, none_count}
+use Rattle.descriptor_table.specs.declared.slot.Use.{Use}
 use Rattle.descriptor_manager.specs.Stores.{AreCleaned, is_placed}
 
 module _ {T : Type 0} where
@@ -18,8 +19,5 @@ module _ {T : Type 0} where
   cleaned_empty old new placed cleaned held waiting = search (rules, count_none, no_sets)
 
   -- without a set none is held, and none waits
-  pub none_held : (slots : List (Slot T)) → ((p : ℕ) → (slot_at slots p).set ≡ None) → count holds slots ≡ 0
-  none_held slots none = none_count holds slots (λ p. let s = slot_at slots p in ap (λ x. is_held_use s.used && is_some x) (none p) ∙ and-false (is_held_use s.used))
-
-  pub none_waits : (slots : List (Slot T)) → ((p : ℕ) → (slot_at slots p).set ≡ None) → count waits slots ≡ 0
-  none_waits slots none = none_count waits slots (λ p. let s = slot_at slots p in ap (λ x. waits_for (λ w. true) s.used && is_some x) (none p) ∙ and-false (waits_for (λ w. true) s.used))
+  pub none_used : (test : Use → Bool) (slots : List (Slot T)) → ((p : ℕ) → (slot_at slots p).set ≡ None) → count (λ s. test s.used && is_some s.set) slots ≡ 0
+  none_used test slots none = none_count (λ s. test s.used && is_some s.set) slots (λ p. ap (λ x. test (slot_at slots p).used && is_some x) (none p) ∙ and-false (test (slot_at slots p).used))

@@ -22,7 +22,9 @@ use Rattle.descriptor_manager.proofs.Bringing.{brought}
 use Rattle.descriptor_manager.proofs.Arriving.{Clears, same_clears}
 use Rattle.descriptor_manager.proofs.Handing.{came_layout}
 use Rattle.descriptor_manager.proofs.Joining.{are_named}
-use Rattle.descriptor_manager.proofs.Owned.{found_set, layout_here, own_comes, sets_settle}
+use Rattle.std.proofs.lemmas.Option.{same_Some}
+use Rattle.std.proofs.lemmas.Grind.{common_steps}
+use Rattle.descriptor_manager.proofs.Owned.{found_set, layout_here, sets_settle}
 
 module _ {L P S D : Type 0} {d : Ghosts D L P S} (r : SetManager L P S D d) (layout : LayoutHandle) (known : SetLayout L) (place : ℕ) (at : place ≡ layout.slot.place) (found : layout_at r.layouts layout ≡ Some known) where
   here : (slot_at (layout_slots r.layouts) place).set ≡ Some known
@@ -31,7 +33,7 @@ module _ {L P S D : Type 0} {d : Ghosts D L P S} (r : SetManager L P S D d) (lay
   module _ {R : Type 0} (many : ℕ) (u : Use) (handles : List SetHandle) (new : Store L P S D d) where
     -- all sets are of their layouts then
     pub sets_then : (result : Result R AllocationError) → Requests known.layout place many u handles result r.store new → HasSetsOf (layout_slots r.layouts) r.manager new
-    sets_then result requests = sets_settle (ComesOf d.meaning known.layout place) (layout_slots r.layouts) r.manager r.store new requests.settles (own_comes d.meaning place (layout_slots r.layouts) known here) r.sets
+    sets_then result requests = sets_settle (ComesOf d.meaning known.layout place) (layout_slots r.layouts) r.manager r.store new requests.settles (λ n x other comes at. grind (arith, common_steps, here, same_Some)) r.sets
 
     module _ (result : R) (requests : Requests known.layout place many u handles (Ok result) r.store new) where
       -- kept sets may have gone before

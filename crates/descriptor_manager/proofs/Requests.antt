@@ -1,5 +1,5 @@
 -- Requests that kept sets met, or kept and new ones, or none: for `Store::allocate`, `allocate_new`, `allocate_each` and `allocate_with_new`.
-use Rattle.std.proofs.Common.{◌≡◌, ◌∙◌, ℕ, ◌+◌, ◌-◌, ◌<◌, ◌≤◌, true, List, [], length, Ok, Err, inl, refl, ap, arith}
+use Rattle.std.proofs.Common.{◌≡◌, ◌∙◌, ℕ, ◌+◌, ◌-◌, ◌<◌, ◌≤◌, true, List, [], length, Ok, Err, inl, refl, ap, arith, inr}
 use Rattle.gpu_descriptor_types.specs.declared.device.DescriptorDevice.{Ghosts}
 use Rattle.gpu_descriptor_types.specs.Side.{Side}
 use Rattle.gpu_descriptor.specs.Caller.Sets.{items_of}
@@ -16,8 +16,9 @@ use Rattle.descriptor_manager.specs.Stores.{AsksAtLast, ComesOf, HoldEach, Holds
 use Rattle.descriptor_manager.specs.declared.store.Store.{Store}
 use Rattle.descriptor_manager.proofs.Arriving.{Clears, arrived, same_clears}
 use Rattle.descriptor_manager.proofs.Bringing.{brought}
-use Rattle.descriptor_manager.proofs.Growing.{grow_from, grow_refused}
-use Rattle.descriptor_manager.proofs.Handing.{refused_arrives}
+use Rattle.descriptor_manager.proofs.Growing.{cleared_long}
+use Rattle.descriptor_manager.proofs.Handing.{refused_arrives, unmet_slots}
+use Rattle.std.proofs.lemmas.Grind.{common_steps}
 use Rattle.descriptor_manager.proofs.Joining.{held_stays, holds_arrives, kept_then, stays_then, store_same}
 
 -- the sets that were on their way are in the table if none is any more, and the device wasn't called
@@ -42,7 +43,7 @@ module _ {L P S D : Type 0} {d : Ghosts D L P S} {R : Type 0} (known : L) (layou
         kept = λ le. (refl, (enough le).1, (enough le).2);
         refused = tt;
         settles = arrived comes old new (holds_arrives old.table.number layout u handles (slots_in old) (slots_in ready) (slots_in new) clear held live comes keeps.sets) none rest (stays_then old ready new stays keeps.stays);
-        grows = grow_from (slots_in old) (slots_in ready) (slots_in new) long keeps.grows;
+        grows = elim keeps.grows [ inl same ↦ inl (same ∙ long) | inr all ↦ inr all ];
       }
 
 module _ {L P S D : Type 0} {d : Ghosts D L P S} {R : Type 0} (known : L) (layout many : ℕ) (u : Use) (handles : List SetHandle) (old new : Store L P S D d) where
@@ -79,5 +80,5 @@ module _ {L P S D : Type 0} {d : Ghosts D L P S} {R : Type 0} (known : L) (layou
     kept = λ enough. absurd (omega arith);
     refused = refused;
     settles = arrived _ old asked (refused_arrives _ known (many - kept_of layout old) many error old asked refused) none rest stays;
-    grows = grow_refused known (many - kept_of layout old) many error old asked refused;
+    grows = grind (arith, common_steps, cleared_long, unmet_slots);
   }

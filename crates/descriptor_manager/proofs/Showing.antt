@@ -1,12 +1,11 @@
 -- What handles name once sets were freed, waited, or were returned to their pools: for `SetManager::frame_done`, `free`, `cleanup` and others.
 use Rattle.std.proofs.lemmas.Grind.{common_steps}
-use Rattle.std.proofs.Common.{◌≡◌, ℕ, ◌+◌, ◌<◌, ◌&&◌, nat_le, Bool, true, false, List, length, if◌then◌else◌, refl, ap, arith, rules}
+use Rattle.std.proofs.Common.{◌≡◌, ℕ, ◌+◌, ◌<◌, ◌&&◌, nat_le, Bool, true, false, List, if◌then◌else◌, refl, ap, arith, rules}
 use Rattle.descriptor_table.specs.Sets.{AreHeldOnce, LoseNames, sets_of}
 use Rattle.descriptor_table.specs.Slots.{Slot, in_list, is_due, is_live, slot_at, waits_for}
-use Rattle.descriptor_table.specs.Tables.{Turns, aged, is_kept, place_at, vacated, MayBecome, IsBack, used_for, Becomes, TurnEach}
+use Rattle.descriptor_table.specs.Tables.{Turns, aged, is_kept, vacated, MayBecome, IsBack, TurnEach}
 use Rattle.descriptor_table.specs.declared.handle.SetHandle.{SetHandle}
 use Rattle.descriptor_table.specs.declared.slot.Use.{Use}
-use Rattle.descriptor_table.specs.declared.slot.Use.TheVariants.{Waits}
 use Rattle.descriptor_table.proofs.Naming.{ShowsSame, names_kept, names_lost, shown}
 use Rattle.descriptor_manager.specs.Stores.{AreCleaned}
 
@@ -27,7 +26,7 @@ module _ {T : Type 0} (frame : ℕ) (opened : Bool) where
   quiet_shown o n g was is = search rules
 
   -- a freed set has no live handle, whether it is kept or left
-  back_quiet : (removed : ℕ → Bool) (max : ℕ) (new : List (Slot T)) (o n : Slot T) → IsBack vacated removed max new o n → (is_live frame opened n.used ≡ false) × (n.generation ≡ o.generation)
+  pub back_quiet : (removed : ℕ → Bool) (max : ℕ) (new : List (Slot T)) (o n : Slot T) → IsBack vacated removed max new o n → (is_live frame opened n.used ≡ false) × (n.generation ≡ o.generation)
   back_quiet removed max new o n back = search rules
 
   -- each slot shows what it showed, since those that turn do
@@ -48,15 +47,8 @@ module _ {T : Type 0} (frame : ℕ) (opened : Bool) where
       by_kept : (o n : Slot T) (b : Bool) → is_kept o ≡ b → n ≡ (if is_kept o then vacated (aged o) else aged o) → ShowsSame frame opened o n
       by_kept o n x2 e is = search (rules, kept_use, quiet_shown, shown)
 
-  -- freed sets, and those that wait, have no handle
-  pub freed_names :
-      (removed : ℕ → Bool) (number max : ℕ) (handles : List SetHandle) (old new : List (Slot T))
-      → AreHeldOnce number old handles
-      → TurnEach handles (IsBack vacated removed max) old new
-      → LoseNames handles (sets_of number frame opened old) (sets_of number frame opened new)
-  freed_names removed number max handles old new once turns =
-      let quiet : (i : ℕ) → i < length handles → _ = λ i lt. back_quiet removed max new (slot_at old (place_at handles i)) (slot_at new (place_at handles i)) (turns.named i lt) in
-      names_lost number frame opened handles old new once (λ i lt. (quiet i lt).0) (λ i lt. (quiet i lt).1) turns.rest
-
-  pub waited_names : (number until : ℕ) (handles : List SetHandle) (old new : List (Slot T)) → AreHeldOnce number old handles → TurnEach handles (Becomes (used_for (Waits until))) old new → LoseNames handles (sets_of number frame opened old) (sets_of number frame opened new)
-  waited_names number until handles old new once waits = names_lost number frame opened handles old new once (λ i lt. ap (λ (s : Slot T). is_live frame opened s.used) (waits.named i lt)) (λ i lt. ap (λ (s : Slot T). s.generation) (waits.named i lt)) waits.rest
+  -- sets that were held, and have no live handle any more
+  pub lost_names :
+      (number : ℕ) {handles : List SetHandle} {becomes : List (Slot T) → Slot T → Slot T → Type 0} {old new : List (Slot T)} → AreHeldOnce number old handles → TurnEach handles becomes old new
+      → ((o n : Slot T) → becomes new o n → (is_live frame opened n.used ≡ false) × (n.generation ≡ o.generation)) → LoseNames handles (sets_of number frame opened old) (sets_of number frame opened new)
+  lost_names number {handles} {old = old} {new} once turns quiet = names_lost number frame opened handles old new once (λ i lt. (quiet _ _ (turns.named i lt)).0) (λ i lt. (quiet _ _ (turns.named i lt)).1) turns.rest

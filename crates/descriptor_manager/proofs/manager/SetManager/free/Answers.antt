@@ -3,7 +3,7 @@ use Rattle.descriptor_table.specs.Sets.{AreHeldOnce}
 use Rattle.descriptor_manager.specs.Managers.{seen}
 use Rattle.descriptor_manager.specs.Stores.{removed_in, slots_in}
 use Rattle.descriptor_manager.proofs.Owned.{only_store, sets_stay}
-use Rattle.descriptor_manager.proofs.Showing.{freed_names}
+use Rattle.descriptor_manager.proofs.Showing.{back_quiet, lost_names}
 use Rattle.descriptor_manager.proofs.manager.SetManager.free.Goals as goal
 
 pub invariant_of-self-clause-sets : goal.invariant_of-self-clause-sets
@@ -13,8 +13,7 @@ pub returns-clause-names : goal.returns-clause-names
 returns-clause-names g c =
     let old = c.args.self.now in
     let once = subst (λ n. AreHeldOnce n (slots_in old.store) (g.N.SetName.handles_of c.args.sets.now)) old.sets.number (c.if-not-free_each.ensures.once.0 refl).0 in
-    let frees = c.if-not-free_each.ensures.frees refl in
-    freed_names old.frame old.is_open (removed_in old.store) old.manager old.store.table.keep (g.N.SetName.handles_of c.args.sets.now) (slots_in old.store) (slots_in c.free_each.new.self) once frees.turns
+    lost_names old.frame old.is_open old.manager once (c.if-not-free_each.ensures.frees refl).turns (back_quiet old.frame old.is_open (removed_in old.store) old.store.table.keep (slots_in c.free_each.new.self))
 
 pub returns-then-not-free_each-clause-stay : goal.returns-then-not-free_each-clause-stay
 returns-then-not-free_each-clause-stay g c = only_store c.args.self.now c.free_each.new.self c.free_each.ensures.settles.stays ∙ (λ i. record (seen c.args.self.now) { slots = (c.if-not-free_each.ensures.none refl).0 i; side = (c.if-not-free_each.ensures.none refl).1 i })

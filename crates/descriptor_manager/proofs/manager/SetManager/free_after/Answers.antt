@@ -1,9 +1,9 @@
-use Rattle.std.proofs.Common.{refl, subst, ◌∙◌}
+use Rattle.std.proofs.Common.{refl, subst, ◌∙◌, rules}
 use Rattle.descriptor_table.specs.Sets.{AreHeldOnce}
 use Rattle.descriptor_manager.specs.Managers.{seen}
 use Rattle.descriptor_manager.specs.Stores.{slots_in}
 use Rattle.descriptor_manager.proofs.Owned.{only_store, sets_stay}
-use Rattle.descriptor_manager.proofs.Showing.{waited_names}
+use Rattle.descriptor_manager.proofs.Showing.{lost_names}
 use Rattle.descriptor_manager.proofs.manager.SetManager.free_after.Goals.{Else-not-wait_each}
 use Rattle.descriptor_manager.proofs.manager.SetManager.free_after.Goals as goal
 
@@ -15,7 +15,7 @@ held : (g : _) (c : Else-not-wait_each g) → AreHeldOnce c.args.self.now.manage
 held g c = (let old = c.args.self.now in subst (λ n. AreHeldOnce n (slots_in old.store) (g.N.SetName.handles_of c.args.sets.now)) old.sets.number (c.if-not-wait_each.ensures.once.0 refl).0)
 
 pub returns-clause-names : goal.returns-clause-names
-returns-clause-names g c = (let old = c.args.self.now in waited_names old.frame old.is_open old.manager c.args.last_use (g.N.SetName.handles_of c.args.sets.now) (slots_in old.store) (slots_in c.wait_each.new.self) (held g (goal.at.returns-clause-names g c).Else-not-wait_each) (c.if-not-wait_each.ensures.waits refl))
+returns-clause-names g c = lost_names c.args.self.now.frame c.args.self.now.is_open c.args.self.now.manager (held g (goal.at.returns-clause-names g c).Else-not-wait_each) (c.if-not-wait_each.ensures.waits refl) (search rules)
 
 pub returns-then-not-wait_each-clause-stay : goal.returns-then-not-wait_each-clause-stay
 returns-then-not-wait_each-clause-stay g c = only_store c.args.self.now c.wait_each.new.self c.wait_each.ensures.settles.stays ∙ (λ i. record (seen c.args.self.now) { slots = c.if-not-wait_each.ensures.none refl i; side = c.wait_each.ensures.side i })

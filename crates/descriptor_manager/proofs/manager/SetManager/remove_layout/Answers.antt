@@ -1,32 +1,22 @@
 use Rattle.std.proofs.lemmas.Grind.{common_steps}
-use Rattle.std.proofs.Common.{◌≡◌, ◌≢◌, ℕ, Bool, true, if◌then◌else◌, List, is_some, inl, inr, refl, sym, ap, ◌∙◌, arith, eq-eqb, ne_eqb, rules, [], Some, length, length-set}
+use Rattle.std.proofs.Common.{◌≡◌, ◌≢◌, ℕ, Bool, true, if◌then◌else◌, is_some, inl, inr, refl, sym, ap, ◌∙◌, arith, eq-eqb, ne_eqb, rules, [], Some, length, length-set}
 use Rattle.std.proofs.lemmas.List.Elements.{All-cons, All-nil}
 use Rattle.gpu_descriptor.specs.declared.layout.SetLayout.{SetLayout}
-use Rattle.descriptor_table.specs.Sets.{sets_of}
-use Rattle.descriptor_table.specs.Slots.{Slot, count, is_kept_of, slot_at}
-use Rattle.descriptor_table.specs.Tables.{Becomes, Settings, Turns, removed_with, vacated}
+use Rattle.descriptor_table.specs.Slots.{Slot, slot_at}
+use Rattle.descriptor_table.specs.Tables.{Settings, removed_with, vacated}
 use Rattle.descriptor_table.proofs.Counting.{same_or}
 use Rattle.descriptor_table.proofs.Counts.{none_count}
 use Rattle.descriptor_table.proofs.Naming.{names_kept}
-use Rattle.descriptor_table.proofs.Listed.{other_slots, slot_set}
+use Rattle.descriptor_table.proofs.Listed.{other_slots, slot_set, test_within}
 use Rattle.descriptor_manager.specs.LayoutRegistries.{layout_slots, layouts_by}
 use Rattle.descriptor_manager.specs.Stores.{NoneComes, removed_in, side_of, slots_in}
 use Rattle.descriptor_manager.specs.Managers.{seen}
 use Rattle.descriptor_manager.proofs.Back.{kept_out}
 use Rattle.descriptor_manager.proofs.Naming.{kept_as}
 use Rattle.descriptor_manager.proofs.Showing.{quiet_shown, turned}
-use Rattle.descriptor_manager.proofs.Owned.{layout_here, layout_within, sets_as}
+use Rattle.descriptor_manager.proofs.Owned.{layout_here, sets_as}
 use Rattle.descriptor_manager.proofs.manager.SetManager.remove_layout.Goals.{After-place}
 use Rattle.descriptor_manager.proofs.manager.SetManager.remove_layout.Goals as goal
-
--- What slots become when a layout is removed. `layout` is its number.
-module _ {T : Type 0} (layout : ℕ) (old new : List (Slot T)) (turns : Turns (is_kept_of layout) (Becomes vacated) old new) where
-  -- all handles name what they named, as a kept set has none; and no set of the layout is kept then
-  removed_names : (number frame : ℕ) (opened : Bool) → sets_of number frame opened new ≡ sets_of number frame opened old
-  removed_names number frame opened = search (rules, kept_as, names_kept, quiet_shown, turned)
-
-  removed_none : count (is_kept_of layout) new ≡ 0
-  removed_none = none_count (is_kept_of layout) new (kept_out layout old new turns)
 
 -- other layouts are as they were
 removed_other : (layout : ℕ) (removed : ℕ → Bool) (n : ℕ) → n ≢ layout → removed_with layout removed n ≡ removed n
@@ -38,7 +28,7 @@ here g c = layout_here c.args.self.now.layouts c.args.layout c.in-Some.removed c
 
 -- and leaves its slot
 gone : (g : _) (c : After-place g) → slot_at (layout_slots c.remove.new.self) c.place.result ≡ vacated (slot_at (layout_slots c.args.self.now.layouts) c.place.result)
-gone g c = grind (arith, common_steps, here, layout_within, slot_set)
+gone g c = let within = test_within (λ s. is_some s.set) (layout_slots c.args.self.now.layouts) c.place.result refl (ap is_some (here g c)) in grind (arith, common_steps, slot_set)
 
 others : (g : _) (c : After-place g) (n : ℕ) → n ≢ c.place.result → slot_at (layout_slots c.remove.new.self) n ≡ slot_at (layout_slots c.args.self.now.layouts) n
 others g c n ne = grind (arith, common_steps, other_slots)
@@ -58,10 +48,10 @@ invariant_of-self-clause-sets g c =
     (ap (λ (s : Settings). s.layouts) s ∙ old.sets.numbers ∙ sym (ap length (c.in-Some.ensures.slots refl) ∙ length-set _ _ _)) (ap (λ (s : Settings). s.number) s) old.sets
 
 pub returns-in-Some-clause-none_kept : goal.returns-in-Some-clause-none_kept
-returns-in-Some-clause-none_kept g c = grind (arith, common_steps, removed_none)
+returns-in-Some-clause-none_kept g c = grind (arith, common_steps, none_count, kept_out)
 
 pub returns-in-Some-clause-names : goal.returns-in-Some-clause-names
-returns-in-Some-clause-names g c = search (rules, removed_names)
+returns-in-Some-clause-names g c = names_kept _ _ _ _ _ (turned _ _ _ _ _ _ c.remove_layout.ensures.removes.turns (λ o n kept gone. search (rules, kept_as, quiet_shown)))
 
 -- the handle lost its layout, and no other handle did
 pub returns-in-Some-clause-others : goal.returns-in-Some-clause-others

@@ -1,11 +1,13 @@
-use Rattle.std.proofs.Common.{ap, ◌∙◌}
+use Rattle.std.proofs.Common.{ap, ◌∙◌, true}
 use Rattle.descriptor_manager.specs.Managers.{Rendering, slots_of}
 use Rattle.descriptor_manager.proofs.Back.{left_none}
-use Rattle.descriptor_manager.proofs.Remaining.{none_held, none_waits}
+use Rattle.descriptor_manager.proofs.Remaining.{none_used}
+use Rattle.descriptor_table.specs.Slots.{waits_for}
+use Rattle.descriptor_table.specs.Tables.{is_held_use}
 use Rattle.descriptor_manager.proofs.manager.SetManager.shutdown.Goals as goal
 
 pub returns : goal.returns
 returns g c =
     let slots = slots_of c.free_all.new.self in
     let none = left_none (slots_of c.args.self) slots c.free_all.ensures.frees.turns in
-    ap (λ l. l.pools) c.into_device.ensures ∙ c.cleanup.ensures.emptied (none_held slots none) (none_waits slots none) ∙ ap (λ (r : Rendering g.row.L.Denot g.row.P.Denot g.row.S.Denot). r.pools_besides) c.free_all.ensures.rest
+    ap (λ l. l.pools) c.into_device.ensures ∙ c.cleanup.ensures.emptied (none_used is_held_use slots none) (none_used (waits_for (λ w. true)) slots none) ∙ ap (λ (r : Rendering g.row.L.Denot g.row.P.Denot g.row.S.Denot). r.pools_besides) c.free_all.ensures.rest
