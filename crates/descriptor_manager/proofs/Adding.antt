@@ -2,13 +2,13 @@
 use Rattle.std.proofs.lemmas.Grind.{common_steps}
 use Rattle.std.proofs.Common.{◌≡◌, ◌≢◌, ℕ, ◌<◌, true, false, List, [], ◌∷◌, set, Option, None, Some, IsSome, inl, inr, refl, sym, ap, subst, ◌∙◌, arith, rules}
 use Rattle.std.proofs.lemmas.Option.{same_Some}
+use Rattle.std.proofs.lemmas.Bool.{cases_eq}
 use Rattle.descriptor_table.specs.Sets.{LoseNames, NameEach, is_held, sets_of}
 use Rattle.descriptor_table.specs.Slots.{Slot, is_live, slot_at}
 use Rattle.descriptor_table.specs.Tables.{Puts, Renews, place_at, renewed, vacated}
 use Rattle.descriptor_table.specs.declared.handle.SetHandle.{SetHandle}
 use Rattle.descriptor_table.specs.declared.slot.Use.{Use}
 use Rattle.descriptor_table.specs.declared.slot.Use.TheVariants.{Held}
-use Rattle.descriptor_table.proofs.Counting.{same_or}
 use Rattle.descriptor_table.proofs.Holding.{held_is}
 use Rattle.descriptor_table.proofs.Naming.{names_lost}
 use Rattle.descriptor_table.proofs.Listed.{other_slots, slot_set}
@@ -31,7 +31,7 @@ module _ {T : Type 0} {number p : ℕ} {x : T} {handle : SetHandle} {old mid new
 
   -- what holds of each layout holds of the new ones
   pub added_meant : (P : T → Type 0) → ((n : ℕ) (y : T) → (slot_at old n).set ≡ Some y → P y) → P x → (n : ℕ) (y : T) → (slot_at new n).set ≡ Some y → P y
-  added_meant P was here n y is = elim (same_or n p) [
+  added_meant P was here n y is = elim (cases_eq n p) [
     | inl e ↦ subst P (same_Some x y (sym (added_here puts renews) ∙ ap (λ n. (slot_at new n).set) (sym e) ∙ is)) here
     | inr ne ↦ was n y (ap (λ (s : Slot T). s.set) (sym (added_others puts renews n ne)) ∙ is)
   ]
@@ -49,4 +49,4 @@ module _ {T : Type 0} (number : ℕ) (h : SetHandle) (old new : List (Slot T)) w
 
   -- each layout that is left was there before
   pub left_only : (r : Option T) → (IsSome r → is_held number old h ≡ true) → (IsSome r → new ≡ set old h.place (vacated (slot_at old h.place))) → (r ≡ None → new ≡ old) → (n : ℕ) (y : T) → (slot_at new n).set ≡ Some y → (slot_at old n).set ≡ Some y
-  left_only x0 held made none n y is = search (rules, held_is, other_slots, same_or, slot_set)
+  left_only x0 held made none n y is = search (rules, held_is, other_slots, cases_eq, slot_set)

@@ -2,12 +2,12 @@
 use Rattle.std.proofs.lemmas.Grind.{common_steps}
 use Rattle.std.proofs.Common.{◌≡◌, ◌⊎◌, ℕ, true, false, List, length, inl, inr, ap, ◌∙◌, arith, rules}
 use Rattle.gpu_descriptor_types.specs.declared.device.DescriptorDevice.{Ghosts}
+use Rattle.std.proofs.lemmas.Bool.{cases_eq}
 use Rattle.descriptor_table.specs.Slots.{Slot, frame_of, is_live, slot_at}
 use Rattle.descriptor_table.specs.Tables.{AreAllUsed, Grows, Puts, Renews, is_usable, renewed}
 use Rattle.descriptor_table.specs.declared.handle.SetHandle.{SetHandle}
 use Rattle.descriptor_table.specs.declared.slot.Use.{Use}
 use Rattle.descriptor_table.proofs.Chains.{live_no_list}
-use Rattle.descriptor_table.proofs.Counting.{same_or}
 use Rattle.descriptor_table.proofs.Holding.{named_or}
 use Rattle.descriptor_table.proofs.Listed.{other_slots, slot_set}
 use Rattle.descriptor_manager.specs.Stores.{HoldEach, IsCleared, slots_in}
@@ -19,7 +19,7 @@ module _ {T : Type 0} where
   pub grow_new : (number layout p : ℕ) (x : T) (u : Use) (handle : SetHandle) (old mid new : List (Slot T)) → ((s : Slot T) → is_usable (renewed u s) ≡ false) → Puts layout x p old mid → Renews number p u handle mid new → (length new ≡ length old) ⊎ AreAllUsed old → Grows old new
   grow_new number layout p x u handle old mid new used puts r grows = elim grows [
     | inl same ↦ inl same
-    | inr all ↦ inr (λ q. grind (arith, common_steps, same_or q p, slot_set mid p (renewed u (slot_at mid p)) puts.within, other_slots mid p (renewed u (slot_at mid p)) q, puts.others q, all q))
+    | inr all ↦ inr (λ q. grind (arith, common_steps, cases_eq q p, slot_set mid p (renewed u (slot_at mid p)) puts.within, other_slots mid p (renewed u (slot_at mid p)) q, puts.others q, all q))
   ]
 
   -- one step after others

@@ -5,12 +5,12 @@ use Rattle.std.proofs.Common.{◌≡◌, ◌≢◌, ℕ, ◌+◌, ◌<◌, ◌�
 use Rattle.gpu_descriptor_types.specs.declared.device.DescriptorDevice.{Ghosts}
 use Rattle.gpu_descriptor.specs.declared.set.DescriptorSet.{DescriptorSet}
 use Rattle.gpu_descriptor.specs.declared.errors.AllocationError.{AllocationError}
+use Rattle.std.proofs.lemmas.Bool.{cases_eq}
 use Rattle.descriptor_table.specs.Slots.{Slot, count, frame_of, is_kept_of, is_live, slot_at}
 use Rattle.descriptor_table.specs.Tables.{Puts, Renews, is_usable, renewed}
 use Rattle.descriptor_table.specs.declared.handle.SetHandle.{SetHandle}
 use Rattle.descriptor_table.specs.declared.slot.Use.{Use}
 use Rattle.descriptor_table.proofs.Chains.{lists_apart, live_no_list}
-use Rattle.descriptor_table.proofs.Counting.{same_or}
 use Rattle.descriptor_table.proofs.Counts.{bit, count_set, same_count}
 use Rattle.descriptor_table.proofs.Listed.{other_slots, slot_set}
 use Rattle.descriptor_table.proofs.Renewing.{kept_is}
@@ -51,7 +51,7 @@ module _ {T : Type 0} (number p : ℕ) (u : Use) (handle : SetHandle) where
   pub new_comes :
       (comes : ℕ → T → Type 0) (layout : ℕ) (x : T) (old put new : List (Slot T)) → Puts layout x p old put → Renews number p u handle put new → comes layout x
       → (q : ℕ) (y : T) → (slot_at new q).set ≡ Some y → (((slot_at old q).set ≡ Some y) × ((slot_at new q).layout ≡ (slot_at old q).layout)) ⊎ comes (slot_at new q).layout y
-  new_comes comes layout x old put new puts renews came q y e = grind (arith, common_steps, same_or q p, slot_set put p (renewed u (slot_at put p)) puts.within)
+  new_comes comes layout x old put new puts renews came q y e = grind (arith, common_steps, cases_eq q p, slot_set put p (renewed u (slot_at put p)) puts.within)
 
   module _ (layout : ℕ) (old new : List (Slot T)) (was : is_kept_of layout (slot_at old p) ≡ true) (within : p < length old) (live : is_live (frame_of u) true u ≡ true) (renews : Renews number p u handle old new) where
     -- one kept set fewer

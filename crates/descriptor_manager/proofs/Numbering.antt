@@ -5,12 +5,12 @@ use Rattle.std.proofs.Math.Bool.{and-false}
 use Rattle.std.proofs.lemmas.List.{get_or_past}
 use Rattle.gpu_descriptor_types.specs.declared.device.DescriptorDevice.{Ghosts}
 use Rattle.gpu_descriptor.specs.declared.layout.SetLayout.{SetLayout}
+use Rattle.std.proofs.lemmas.Bool.{cases_eq, cases_lt}
 use Rattle.descriptor_table.specs.Sets.{NameEach, sets_of}
 use Rattle.descriptor_table.specs.Slots.{Slot, is_removed, is_set_of, slot_at}
 use Rattle.descriptor_table.specs.Tables.{is_usable, layouts_of, removed_of, removed_without}
 use Rattle.descriptor_table.specs.declared.handle.SetHandle.{SetHandle}
 use Rattle.descriptor_table.specs.declared.set_table.SetTable.{SetTable}
-use Rattle.descriptor_table.proofs.Counting.{below_or, same_or}
 use Rattle.descriptor_table.proofs.Listed.{past_end}
 use Rattle.descriptor_manager.specs.LayoutRegistries.{KeepsLayouts, layout_at, layout_slots, layouts_by}
 use Rattle.descriptor_manager.specs.declared.layout_registry.LayoutHandle.{LayoutHandle}
@@ -40,14 +40,14 @@ module _ {L P S D : Type 0} {d : Ghosts D L P S} {layouts : List (Slot (SetLayou
       → ((n : ℕ) → n ≢ number → (slot_at more n ≡ slot_at layouts n) × (removed_in new n ≡ removed_in old n)) → is_usable (slot_at more number) ≡ false
       → ((p : ℕ) → is_set_of number (slot_at (slots_in old) p) ≡ false) → removed_in new number ≡ false
       → layouts_of new.table ≡ length more → new.table.number ≡ old.table.number → HasSetsOf layouts manager old → HasSetsOf more manager new
-  sets_more {more} old new number contents others usable none there = sets_over old new contents (λ n. elim (same_or n number) [
+  sets_more {more} old new number contents others usable none there = sets_over old new contents (λ n. elim (cases_eq n number) [
     | inl e ↦ subst (IsNumbered layouts more old new) (sym e) (inr (inl (none, there, usable)))
     | inr ne ↦ inl (others n ne)
   ])
 
   -- no set is of the next number
   pub next_unused : (s : Store L P S D d) → HasSetsOf layouts manager s → (p : ℕ) → is_set_of (length layouts) (slot_at (slots_in s) p) ≡ false
-  next_unused s was p = elim (below_or p (length (slots_in s))) [
+  next_unused s was p = elim (cases_lt p (length (slots_in s))) [
     | inl within ↦ (let o = slot_at (slots_in s) p in ap (λ b. is_some o.set && b) (ne_eqb o.layout (length layouts) (λ e. let there = (s.table.sound.known p within).there in let same = was.numbers in omega arith)) ∙ and-false (is_some o.set))
     | inr past ↦ ap (is_set_of (length layouts)) (past_end (slots_in s) p past)
   ]

@@ -5,13 +5,13 @@ use Rattle.gpu_descriptor_types.specs.declared.device.DescriptorDevice.{Ghosts}
 use Rattle.gpu_descriptor.specs.declared.errors.AllocationError.{AllocationError}
 use Rattle.gpu_descriptor.specs.declared.layout.SetLayout.{SetLayout}
 use Rattle.gpu_descriptor.specs.declared.set.DescriptorSet.{DescriptorSet}
+use Rattle.std.proofs.lemmas.Bool.{cases_lt}
 use Rattle.descriptor_table.specs.Sets.{NameEach, sets_of}
 use Rattle.descriptor_table.specs.Slots.{is_live, slot_at}
 use Rattle.descriptor_table.specs.Tables.{place_at}
 use Rattle.descriptor_table.specs.declared.handle.SetHandle.{SetHandle}
 use Rattle.descriptor_table.specs.declared.slot.Use.{Use}
-use Rattle.descriptor_table.proofs.Counting.{below_or}
-use Rattle.descriptor_table.proofs.Holding.{same_default}
+use Rattle.std.proofs.lemmas.List.{get_or_default}
 use Rattle.descriptor_manager.specs.LayoutRegistries.{layout_at, layout_slots}
 use Rattle.descriptor_manager.specs.Own.{HasSetsOf}
 use Rattle.descriptor_manager.specs.Stores.{ComesOf, IsRefusedAtLast, Requests, kept_of, slots_in}
@@ -38,7 +38,7 @@ module _ {L P S D : Type 0} {d : Ghosts D L P S} (r : SetManager L P S D d) (lay
     module _ (result : R) (requests : Requests known.layout place many u handles (Ok result) r.store new) where
       -- kept sets may have gone before
       clear : (q : ℕ) → Clears (slot_at (slots_in r.store) q) (slot_at (slots_in requests.takes.ready) q)
-      clear q = elim (below_or (kept_of place r.store) many) [
+      clear q = elim (cases_lt (kept_of place r.store) many) [
         | inl short ↦ (brought known.layout place many r.store requests.takes.ready short (requests.takes.asks short)).clear q
         | inr enough ↦ same_clears (slot_at (slots_in r.store) q) (slot_at (slots_in requests.takes.ready) q) (ap (λ s. slot_at (slots_in s) q) (requests.takes.enough enough))
       ]
@@ -51,7 +51,7 @@ module _ {L P S D : Type 0} {d : Ghosts D L P S} (r : SetManager L P S D d) (lay
         subst (λ n. NameEach handles (sets_of n r.frame r.is_open (slots_in r.store)) (sets_of n r.frame r.is_open (slots_in new))) r.sets.number
             (are_named r.store.table.number place u handles (slots_in r.store) (slots_in requests.takes.ready) (slots_in new) clear requests.takes.holds r.frame r.is_open live),
         λ i e x lt is.
-            let same = ap (λ (h : SetHandle). h.place) (same_default handles i e (record { manager = 0; place = 0; generation = 0 }) lt) in
+            let same = ap (λ (h : SetHandle). h.place) (get_or_default handles i e (record { manager = 0; place = 0; generation = 0 }) lt) in
             (sets_then (Ok result) requests).own (slice_index_or handles i e).place x known (found_set r.manager r.frame r.is_open (slots_in new) (slice_index_or handles i e) x is)
             (ap (λ n. (slot_at (layout_slots r.layouts) n).set) (ap (λ p. (slot_at (slots_in new) p).layout) same
             ∙ came_layout place u (slot_at (slots_in requests.takes.ready) (place_at handles i)) (slot_at (slots_in new) (place_at handles i)) (requests.takes.holds.comes i lt)) ∙ here),
@@ -59,7 +59,7 @@ module _ {L P S D : Type 0} {d : Ghosts D L P S} (r : SetManager L P S D d) (lay
 
   -- a request for one set is refused only if none is kept
   pub one_refused : {R : Type 0} (u : Use) (handles : List SetHandle) (new : Store L P S D d) (error : AllocationError) → Requests {R = R} known.layout place 1 u handles (Err error) r.store new → IsRefusedAtLast known.layout 1 1 error r.store new
-  one_refused u handles new error requests = elim (below_or 0 (kept_of place r.store)) [
+  one_refused u handles new error requests = elim (cases_lt 0 (kept_of place r.store)) [
     | inl some ↦ absurd (true≢false (sym (requests.kept (omega arith)).0))
     | inr none ↦ subst (λ n. IsRefusedAtLast known.layout n 1 error r.store new) (omega arith) requests.refused
   ]

@@ -12,8 +12,7 @@ use Rattle.descriptor_table.proofs.Relisted.{group_there, list_is}
 use Rattle.descriptor_table.specs.Tables.{}
 use Rattle.descriptor_table.specs.Slots.{Slot}
 use Rattle.descriptor_table.specs.declared.slot.Chain.{Chain}
-use Rattle.std.proofs.lemmas.Bool.{true≢false}
-use Rattle.descriptor_table.proofs.Counting.{same_or}
+use Rattle.std.proofs.lemmas.Bool.{cases_eq, true≢false}
 use Rattle.descriptor_table.proofs.Listed.{walk_length, first_passes, one_none, test_within, lists_pop}
 
 -- 1 if the test holds
@@ -80,7 +79,7 @@ module _ {T : Type 0} where
 
   -- some count, if one passes the test
   pub some_count : (test : Slot T → Bool) (slots : List (Slot T)) (p : ℕ) → test no_slot ≡ false → test (slot_at slots p) ≡ true → 0 < count test slots
-  some_count test slots p none is = elim (same_or (count test slots) 0) [
+  some_count test slots p none is = elim (cases_eq (count test slots) 0) [
     | inl e ↦ absurd (true≢false (sym is ∙ count_none test slots none e p))
     | inr ne ↦ omega arith
   ]

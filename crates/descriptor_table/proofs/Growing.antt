@@ -3,6 +3,7 @@ use Rattle.std.proofs.lemmas.Grind.{common_steps}
 use Rattle.std.proofs.Common.{◌≡◌, ℕ, zero, suc, ◌+◌, Bool, true, if◌then◌else◌, List, [], ◌∷◌, ◌++◌, length, get_or, set, refl, sym, ap, ◌∙◌, arith, rules}
 use Rattle.std.proofs.Math.Seq.{get_or-append_seam, set-append_seam}
 use Rattle.std.proofs.lemmas.List.{get_or_append_left, length_push}
+use Rattle.std.proofs.lemmas.Bool.{cases_eq}
 use Rattle.descriptor_table.specs.Places.{times, walk}
 use Rattle.descriptor_table.specs.Slots.{AreLinked, HasLists, IsListed, IsQueue, Slot, chain_at, count, filled, frame_of, is_in, no_slot, slot_at, waits}
 use Rattle.descriptor_table.specs.Tables.{AreAllUsed, At, Changes, HasRoom, Puts, is_usable, slots_of, used_for}
@@ -10,7 +11,6 @@ use Rattle.descriptor_table.specs.declared.set_table.SetTable.{SetTable}
 use Rattle.descriptor_table.specs.declared.slot.Use.TheVariants.{Taken, Vacant}
 use Rattle.descriptor_table.specs.declared.slot.Chain.{Chain}
 use Rattle.descriptor_table.proofs.Chains.{taken_no_list, taken_out}
-use Rattle.descriptor_table.proofs.Counting.{same_or}
 use Rattle.descriptor_table.proofs.Counts.{count_none}
 use Rattle.descriptor_table.proofs.Listed.{test_within}
 
@@ -40,7 +40,7 @@ module _ {T : Type 0} where
 
   -- the layout of each slot has its list, also that of the new slot
   pub known_grown : (slots : List (Slot T)) (s : Slot T) (layouts : ℕ) → IsListed layouts s → HasLists slots layouts → length (slots ++ s ∷ []) ≡ length slots + 1 → HasLists (slots ++ s ∷ []) layouts
-  known_grown slots s layouts here known long q within = grind (arith, common_steps, same_or)
+  known_grown slots s layouts here known long q within = grind (arith, common_steps, cases_eq)
 
   -- what a slot at the end counts
   pub count_grown : (test : Slot T → Bool) (slots : List (Slot T)) (s : Slot T) → count test (slots ++ s ∷ []) ≡ count test slots + (if test s then 1 else 0)

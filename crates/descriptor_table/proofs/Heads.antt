@@ -3,6 +3,7 @@ use Rattle.std.proofs.lemmas.Grind.{common_steps}
 use Rattle.std.proofs.Common.{◌≡◌, ◌≢◌, ℕ, ◌-◌, ◌<◌, true, List, length, get_or, set, is_some, refl, ap, ◌∙◌, arith}
 use Rattle.std.proofs.lemmas.List.{length-set}
 use Rattle.std.specs.VecDeque.{deque_capacity}
+use Rattle.std.proofs.lemmas.Bool.{cases_lt}
 use Rattle.descriptor_table.specs.Slots.{AreSound, IsQueue, Slot, chain_at, count, frame_of, is_in, is_live, nexts_in, slot_at, slots_in}
 use Rattle.descriptor_table.specs.Tables.{chains_of, layouts_of, slots_of, used_for}
 use Rattle.descriptor_table.specs.declared.slot.Use.TheVariants.{Taken}
@@ -10,7 +11,6 @@ use Rattle.descriptor_table.specs.declared.set_table.SetTable.{SetTable}
 use Rattle.descriptor_table.specs.declared.slot.Chain.{Chain}
 use Rattle.descriptor_table.specs.declared.slot_list.SlotList.{SlotList}
 use Rattle.descriptor_table.proofs.Chains.{listed_out, live_no_list, picked, unheld}
-use Rattle.descriptor_table.proofs.Counting.{below_or}
 use Rattle.descriptor_table.proofs.Counts.{chain_count}
 use Rattle.descriptor_table.proofs.Listed.{with_use}
 use Rattle.descriptor_table.proofs.Sound.{listed, pick_sound}
@@ -19,7 +19,7 @@ use Rattle.descriptor_table.proofs.Waiting.{out_queue}
 module _ {T : Type 0} (s : SetTable T) (k : ℕ) (some : 0 < count (is_in k) (slots_of s)) where
   -- a list that has a slot is there
   pub there : k < length (chains_of s)
-  there = grind (arith, common_steps, chain_count (slots_of s) (nexts_in s.slots) (chains_of s) s.sound.linked k, below_or k (length (chains_of s)))
+  there = grind (arith, common_steps, chain_count (slots_of s) (nexts_in s.slots) (chains_of s) s.sound.linked k, cases_lt k (length (chains_of s)))
 
   module _ (c : Chain) (is : chain_at (chains_of s) k ≡ c) where
     pub more : c.count ≢ 0

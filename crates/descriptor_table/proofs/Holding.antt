@@ -2,10 +2,10 @@
 -- `SetTable::take_each` and `settle_held` (`TurnedSome`). Those that turned are held again then, the last one first: for `put_back`.
 -- `n` is how many turned.
 use Rattle.std.proofs.lemmas.Grind.{common_steps}
-use Rattle.std.proofs.Common.{◌≡◌, ◌≢◌, ℕ, zero, suc, ◌+◌, ◌<◌, ◌≤◌, ◌⊎◌, ◌==◌, ◌&&◌, Bool, true, false, List, [], ◌∷◌, length, get_or, set, take, is_some, inl, inr, Option, refl, sym, ap, subst, ◌∙◌, arith, rules}
+use Rattle.std.proofs.Common.{◌≡◌, ◌≢◌, ℕ, zero, suc, ◌+◌, ◌<◌, ◌≤◌, ◌⊎◌, ◌==◌, ◌&&◌, Bool, true, false, List, length, get_or, set, take, is_some, inl, inr, Option, refl, sym, ap, subst, ◌∙◌, arith, rules}
 use Rattle.std.proofs.Math.Bool.{and-false}
 use Rattle.std.proofs.lemmas.List.{ext_get_or, get_or_default, get_or-take, length-set, length-take-le}
-use Rattle.std.proofs.lemmas.Bool.{true≢false}
+use Rattle.std.proofs.lemmas.Bool.{cases_eq, true≢false}
 use Rattle.descriptor_table.specs.Sets.{AreHeldOnce, is_held}
 use Rattle.descriptor_table.specs.Slots.{no_slot, slot_at}
 use Rattle.descriptor_table.specs.Tables.{Becomes, CanBeHeld, HasTaken, IsBack, TurnEach, holds, is_held_use, place_at, used_for}
@@ -14,7 +14,6 @@ use Rattle.descriptor_table.specs.declared.slot.Use.{Use}
 use Rattle.descriptor_table.specs.declared.slot.Use.TheVariants.{Going, Held, Taken}
 use Rattle.descriptor_table.specs.Slots.{Slot}
 use Rattle.descriptor_table.proofs.Chains.{and_true}
-use Rattle.descriptor_table.proofs.Counting.{same_or}
 use Rattle.descriptor_table.proofs.Listed.{other_slots, slot_set, test_within, with_use}
 
 held_use : (u : Use) → is_held_use u ≡ true → u ≡ Held
@@ -23,7 +22,7 @@ held_use u e = grind (arith, common_steps)
 -- a place that a handle of the list has, or none has
 pub named_or : (n : ℕ) (place : ℕ → ℕ) (p : ℕ) → ((i : ℕ) × (i < n) × (place i ≡ p)) ⊎ ((i : ℕ) → i < n → place i ≢ p)
 named_or zero place p = inr (λ i lt. absurd (omega arith))
-named_or (suc n) place p = grind (arith, common_steps, same_or (place n) p, named_or n place p)
+named_or (suc n) place p = grind (arith, common_steps, cases_eq (place n) p, named_or n place p)
 
 -- handles with the same three numbers are the same
 pub handle_is : (a b : SetHandle) → a.manager ≡ b.manager → a.place ≡ b.place → a.generation ≡ b.generation → a ≡ b
@@ -75,7 +74,7 @@ module _ {T : Type 0} where
         let here : slot_at new p ≡ s = ap (λ l. slot_at l p) made ∙ slot_set now p s within in
         record {
           long = ap length made ∙ length-set now p s ∙ first.long;
-          named = λ i less. grind (arith, common_steps, same_or);
+          named = λ i less. grind (arith, common_steps, cases_eq);
           rest = λ q none. far q (λ e. none n (omega arith) (at ∙ sym e)) ∙ first.rest q (λ i less. none i (omega arith));
         }
 
@@ -111,11 +110,11 @@ module _ {T : Type 0} where
         let was : is_held number old h ≡ true = ap (λ (s : Slot T). ((h.manager == number) && (h.generation == s.generation)) && (is_held_use s.used && is_some s.set)) (sym slot_was) ∙ has in
         record {
           few = omega arith;
-          held = λ i d less. elim (same_or i n) [
+          held = λ i d less. elim (cases_eq i n) [
             | inl e ↦ subst (λ i. is_held number old (get_or handles i d) ≡ true) (sym e) (ap (is_held number old) (sym (is d)) ∙ was)
             | inr ne ↦ some.held i d (omega arith)
           ];
-          apart = λ i j less within. search (rules, at, other_place, same_or);
+          apart = λ i j less within. search (rules, at, other_place, cases_eq);
           first = first_more handles becomes n h.place s old now new some.first other_place at held.within made grows turned;
         }
 
@@ -192,7 +191,7 @@ module _ {T : Type 0} where
 
   -- one set more is held again, and at last all are
   pub again_more : (handles : List SetHandle) (i m n p : ℕ) (old now new : List (Slot T)) → m ≡ i + 1 → i < n → place_at handles i ≡ p → p < length now → AreAgain handles m n old now → new ≡ with_use p Held now → AreAgain handles i n old new
-  again_more handles i m n p old now new next lt at within again made = search (rules, length-set, other_slots, same_or, slot_set)
+  again_more handles i m n p old now new next lt at within again made = search (rules, length-set, other_slots, cases_eq, slot_set)
 
   pub again_all : (handles : List SetHandle) (i n : ℕ) (old now : List (Slot T)) → i ≡ 0 → n ≤ length handles → AreAgain handles i n old now → TurnEach (take n handles) (Becomes (used_for Held)) old now
   again_all handles i n old now none le again = (let long = length-take-le n handles le in record {

@@ -2,11 +2,12 @@
 use Rattle.std.proofs.lemmas.Grind.{common_steps}
 use Rattle.std.proofs.Common.{◌≡◌, ◌≢◌, ℕ, zero, suc, ◌+◌, ◌<◌, ◌≤◌, Bool, true, false, if◌then◌else◌, List, [], ◌∷◌, length, get_or, set, refl, sym, ap, ◌∙◌, arith}
 use Rattle.std.proofs.lemmas.List.{get_or-set_other, get_or-set_same, get_or_past}
+use Rattle.std.proofs.lemmas.Bool.{cases_eq}
 use Rattle.descriptor_table.specs.Places.{times, walk}
 use Rattle.descriptor_table.specs.Slots.{Lists, Slot, no_slot, slot_at}
 use Rattle.descriptor_table.specs.Tables.{used_for}
 use Rattle.descriptor_table.specs.declared.slot.Use.{Use}
-use Rattle.descriptor_table.proofs.Counting.{same_or, times_here, times_there}
+use Rattle.descriptor_table.proofs.Counting.{times_here, times_there}
 
 -- 1 if the test holds
 abbrev pub one : Bool → ℕ
@@ -41,17 +42,17 @@ module _ {T : Type 0} where
 
   -- a list stays if the slot that changed passes its test as before; below it gets a place in front, or loses it
   pub lists_other : (t : Slot T → Bool) (slots : List (Slot T)) (p : ℕ) (s : Slot T) (l : List ℕ) → Lists t slots l → p < length slots → t s ≡ t (slot_at slots p) → Lists t (set slots p s) l
-  lists_other t slots p s l h within same = grind (arith, common_steps, one, other_slots, same_or, slot_set)
+  lists_other t slots p s l h within same = grind (arith, common_steps, one, other_slots, cases_eq, slot_set)
 
   pub lists_push : (t : Slot T → Bool) (slots : List (Slot T)) (p : ℕ) (s : Slot T) (l : List ℕ) → Lists t slots l → p < length slots → t (slot_at slots p) ≡ false → t s ≡ true → Lists t (set slots p s) (p ∷ l)
-  lists_push t slots p s l h within was now = grind (arith, common_steps, one, other_slots, same_or, slot_set, times_here, times_there)
+  lists_push t slots p s l h within was now = grind (arith, common_steps, one, other_slots, cases_eq, slot_set, times_here, times_there)
 
   -- the first of a list passes the test, and is there once
   pub first_passes : (t : Slot T → Bool) (slots : List (Slot T)) (p : ℕ) (l : List ℕ) → Lists t slots (p ∷ l) → (times p l ≡ 0) × (t (slot_at slots p) ≡ true)
   first_passes t slots p l h = one_less (t (slot_at slots p)) (times p l) (sym (times_here p l) ∙ h p)
 
   pub lists_pop : (t : Slot T → Bool) (slots : List (Slot T)) (p : ℕ) (s : Slot T) (l : List ℕ) → Lists t slots (p ∷ l) → p < length slots → t s ≡ false → Lists t (set slots p s) l
-  lists_pop t slots p s l h within now = grind (arith, common_steps, first_passes, one, other_slots, same_or, slot_set, times_there)
+  lists_pop t slots p s l h within now = grind (arith, common_steps, first_passes, one, other_slots, cases_eq, slot_set, times_there)
 
   pub past_end : (slots : List (Slot T)) (p : ℕ) → length slots ≤ p → slot_at slots p ≡ no_slot
   past_end slots p le = get_or_past slots p no_slot le

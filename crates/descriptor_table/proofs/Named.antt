@@ -3,6 +3,7 @@
 use Rattle.std.proofs.lemmas.Grind.{common_steps}
 use Rattle.std.proofs.Common.{◌≡◌, ◌≢◌, ℕ, ◌+◌, ◌<◌, ◌≤◌, ◌&&◌, true, false, Bool, List, length, map, get_or, set, inl, inr, refl, sym, ap, subst, ◌∙◌, arith}
 use Rattle.std.proofs.lemmas.List.{get_or_default}
+use Rattle.std.proofs.lemmas.Bool.{cases_eq}
 use Rattle.descriptor_table.specs.Sets.{AllFit, AreHeldOnce, is_held}
 use Rattle.descriptor_table.specs.Slots.{Slot, slot_at}
 use Rattle.descriptor_table.specs.Tables.{HasTaken, TurnEach, place_at}
@@ -10,7 +11,6 @@ use Rattle.descriptor_table.specs.declared.handle.SetHandle.{SetHandle}
 use Rattle.descriptor_table.specs.declared.handle.SetName.{Ghosts}
 use Rattle.descriptor_table.specs.declared.slot.Use.TheVariants.{Held}
 use Rattle.descriptor_table.proofs.Chains.{and_true}
-use Rattle.descriptor_table.proofs.Counting.{same_or}
 use Rattle.descriptor_table.proofs.Holding.{TurnedFirst, TurnedSome, first_all, first_more, slot_was, turn_more, turned_all, turned_no, turned_none}
 use Rattle.descriptor_table.proofs.Names.{handle_read, handles_long, place_read}
 
@@ -44,7 +44,7 @@ module _ {N T : Type 0} (n : Ghosts N T) (each : (names : List N) → n.handles_
           let was = slot_was number (n.handles_of names) becomes k old now turned.some not_held h within read held in
           record {
             some = turn_more number (n.handles_of names) becomes k old now turned.some not_held h within read held s new made grows turns;
-            fit = λ i d less. elim (same_or i k) [
+            fit = λ i d less. elim (cases_eq i k) [
               | inl e ↦ subst (λ (y : N). n.fit y (slot_at old (n.handle_of y).place).set ≡ true) (is ∙ get_or_default names k x d lt ∙ ap (λ i. get_or names i d) (sym e)) (subst (λ (h : SetHandle). n.fit x (slot_at old h.place).set ≡ true) hs (subst (λ (s : Slot T). n.fit x s.set ≡ true) was (subst (λ (h : SetHandle). n.fit x (slot_at now h.place).set ≡ true) (sym hs) both.0)))
               | inr ne ↦ turned.fit i d (omega arith)
             ];

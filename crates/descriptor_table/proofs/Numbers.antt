@@ -1,7 +1,7 @@
 -- The users of layouts: a number is free once, so the free ones have room; and users are the sets that there are, when a slot changes.
 use Rattle.std.proofs.lemmas.Grind.{common_steps}
-use Rattle.std.proofs.Common.{◌≡◌, ◌≢◌, ℕ, zero, suc, ◌+◌, ◌-◌, ◌<◌, ◌≤◌, Bool, true, false, List, [], ◌∷◌, ◌++◌, is_some, inl, inr, refl, ◌∙◌, length, set, sym, ap, arith, eq-eqb, ne_eqb, ◌&&◌, ◌==◌, nat_eq, subst, if◌then◌else◌}
-use Rattle.std.proofs.lemmas.Bool.{and_right, false≢true}
+use Rattle.std.proofs.Common.{◌≡◌, ◌≢◌, ℕ, ◌+◌, ◌-◌, ◌<◌, ◌≤◌, Bool, true, false, List, [], ◌∷◌, ◌++◌, is_some, inl, inr, refl, ◌∙◌, length, set, sym, ap, arith, eq-eqb, ne_eqb, ◌&&◌, ◌==◌, nat_eq, subst, if◌then◌else◌}
+use Rattle.std.proofs.lemmas.Bool.{and_right, cases_eq, cases_lt, false≢true}
 use Rattle.std.proofs.lemmas.List.{get_or-set_other, get_or-set_same, get_or_past, get_or_append_left, get_or_push, length-set, length_push}
 use Rattle.std.proofs.lemmas.Map.Keys.{IsDistinct-cons}
 use Rattle.std.proofs.lemmas.Map.Steps.{length-le_from_distinct_below}
@@ -14,7 +14,7 @@ use Rattle.descriptor_table.specs.Users.{users_in}
 use Rattle.descriptor_table.specs.declared.lists.Lists.{Lists}
 use Rattle.descriptor_table.specs.declared.set_table.SetTable.{SetTable}
 use Rattle.descriptor_table.specs.declared.slot.Chain.{Chain}
-use Rattle.descriptor_table.proofs.Counting.{below_or, same_or, times_here, times_there}
+use Rattle.descriptor_table.proofs.Counting.{times_here, times_there}
 use Rattle.descriptor_table.proofs.Entries.{in_place}
 use Rattle.descriptor_table.proofs.Growing.{count_grown}
 use Rattle.descriptor_table.proofs.Counts.{bit, count_less, count_set, none_count, same_count, some_count}
@@ -22,7 +22,7 @@ use Rattle.descriptor_table.proofs.Counts.{bit, count_less, count_set, none_coun
 -- a number that isn't in a list is none of it
 apart : (p : ℕ) (l : List ℕ) → times p l ≡ 0 → AllByRecursion (λ q. (p == q) ≡ false) l
 apart p [] none = tt
-apart p (q ∷ l) none = elim (same_or p q) [
+apart p (q ∷ l) none = elim (cases_eq p q) [
   | inl e ↦ absurd (omega (arith, subst (λ q. times p (q ∷ l) ≡ 0) (sym e) none, times_here p l))
   | inr ne ↦ (ne_eqb p q ne, apart p l (omega (arith, times_there p q l ne)))
 ]
@@ -42,7 +42,7 @@ found p (q ∷ l) is none = grind (arith, common_steps, found p l)
 pub free_room : (free counts : List ℕ) → AreFree free counts → (m : ℕ) → m < length counts → users_at counts m ≢ 0 → length free + 1 ≤ length counts
 free_room free counts h m lt some =
     omega (arith, length-le_from_distinct_below (m ∷ free) (length counts) (IsDistinct-cons nat_eq m free (apart m free (grind (arith, common_steps, h m))) (distinct free (λ p. grind (arith, common_steps, h p))))
-    (λ q is. grind (arith, common_steps, h q, found q (m ∷ free) is, below_or q (length counts), get_or_past)))
+    (λ q is. grind (arith, common_steps, h q, found q (m ∷ free) is, cases_lt q (length counts), get_or_past)))
 
 -- a number that is put last is in the list once more
 pub times_last : (p q : ℕ) (l : List ℕ) → times p (l ++ q ∷ []) ≡ times p (q ∷ l)
@@ -52,7 +52,7 @@ times_last p q (x ∷ l) = let h = times_last p q l in omega arith
 module _ (free counts : List ℕ) (h : AreFree free counts) (n : ℕ) (lt : n < length counts) where
   -- a number that had users has none any more
   pub free_more : users_at counts n ≢ 0 → AreFree (free ++ n ∷ []) (set counts n 0)
-  free_more was p = grind (arith, common_steps, h p, same_or p n, get_or-set_same, get_or-set_other, times_last p n free, times_here, times_there)
+  free_more was p = grind (arith, common_steps, h p, cases_eq p n, get_or-set_same, get_or-set_other, times_last p n free, times_here, times_there)
 
 -- a number that was free last has a user
 module _ (all free counts : List ℕ) (n : ℕ) (is : all ≡ free ++ n ∷ []) (h : AreFree all counts) where
@@ -60,7 +60,7 @@ module _ (all free counts : List ℕ) (n : ℕ) (is : all ≡ free ++ n ∷ []) 
   times_all p = ap (times p) is ∙ times_last p n free
 
   pub last_within : n < length counts
-  last_within = elim (below_or n (length counts)) [
+  last_within = elim (cases_lt n (length counts)) [
     | inl lt ↦ lt
     | inr le ↦ grind (arith, common_steps, h n, times_all n, times_here n free, get_or_past)
   ]
@@ -69,21 +69,21 @@ module _ (all free counts : List ℕ) (n : ℕ) (is : all ≡ free ++ n ∷ []) 
   last_free = grind (arith, common_steps, h n, times_all n, times_here n free)
 
   pub free_less : AreFree free (set counts n 1)
-  free_less p = grind (arith, common_steps, h p, h n, last_within, same_or p n, get_or-set_same, get_or-set_other, times_all p, times_here n free, times_there)
+  free_less p = grind (arith, common_steps, h p, h n, last_within, cases_eq p n, get_or-set_same, get_or-set_other, times_all p, times_here n free, times_there)
 
 module _ {T : Type 0} (slots slots' : List (Slot T)) (layouts : ℕ) (removed : ℕ → Bool) (users : List ℕ) (h : AreCounted slots layouts removed users) (p : ℕ) (s : Slot T) (within : p < length slots) (is : slots' ≡ set slots p s) where
   -- a slot got a set
   pub joined_counted : (layout : ℕ) → s.layout ≡ layout → layout < layouts → is_some (slot_at slots p).set ≡ false → is_some s.set ≡ true → AreCounted slots' layouts removed (set users layout (users_at users layout + 1))
   joined_counted layout at there was now = record {
     long = length-set users layout _ ∙ h.long;
-    each = λ n lt. grind (arith, common_steps, h.each n, count_set (is_set_of n) slots p s within, same_or n layout, get_or-set_same, get_or-set_other, bit, h.long);
+    each = λ n lt. grind (arith, common_steps, h.each n, count_set (is_set_of n) slots p s within, cases_eq n layout, get_or-set_same, get_or-set_other, bit, h.long);
   }
 
   -- and lost it
   pub left_counted : (layout : ℕ) → (slot_at slots p).layout ≡ layout → layout < layouts → is_some (slot_at slots p).set ≡ true → is_some s.set ≡ false → AreCounted slots' layouts removed (set users layout (users_at users layout - 1))
   left_counted layout at there was now = record {
     long = length-set users layout _ ∙ h.long;
-    each = λ n lt. grind (arith, common_steps, h.each n, count_set (is_set_of n) slots p s within, same_or n layout, get_or-set_same, get_or-set_other, bit, h.long);
+    each = λ n lt. grind (arith, common_steps, h.each n, count_set (is_set_of n) slots p s within, cases_eq n layout, get_or-set_same, get_or-set_other, bit, h.long);
   }
 
 -- a slot of a table changed, but not its set
@@ -114,7 +114,7 @@ module _ {T : Type 0} (t : SetTable T) (layout : ℕ) (has : HasLayout layout t)
   pub removed_counted : AreCounted (slots_of t) (layouts_of t) (removed_with layout (removed_of t)) (set (users_in t.users) layout (users_at (users_in t.users) layout - 1))
   removed_counted = record {
     long = length-set (users_in t.users) layout _ ∙ t.counted.long;
-    each = λ n lt. grind (arith, common_steps, t.counted.each n, users_are, same_or n layout, get_or-set_same, get_or-set_other, t.counted.long);
+    each = λ n lt. grind (arith, common_steps, t.counted.each n, users_are, cases_eq n layout, get_or-set_same, get_or-set_other, t.counted.long);
   }
 
 -- a number without users has no set, and its layout was removed; it has another one
@@ -125,21 +125,21 @@ module _ {T : Type 0} (t : SetTable T) (layout : ℕ) (within : layout < length 
   pub renewed_counted : AreCounted (slots_of t) (layouts_of t) (removed_without layout (removed_of t)) (set (users_in t.users) layout 1)
   renewed_counted = record {
     long = length-set (users_in t.users) layout _ ∙ t.counted.long;
-    each = λ n lt. grind (arith, common_steps, t.counted.each n, free_is, same_or n layout, get_or-set_same, get_or-set_other, t.counted.long);
+    each = λ n lt. grind (arith, common_steps, t.counted.each n, free_is, cases_eq n layout, get_or-set_same, get_or-set_other, t.counted.long);
   }
 
 -- one layout more, of which there is no set
 pub added_counted : {T : Type 0} (t : SetTable T) → AreCounted (slots_of t) (layouts_of t + 1) (removed_of t) (users_in t.users ++ 1 ∷ [])
 added_counted {T} t = record {
   long = length_push (users_in t.users) 1 ∙ ap (λ n. n + 1) t.counted.long;
-  each = λ n lt. elim (same_or n (layouts_of t)) [
+  each = λ n lt. elim (cases_eq n (layouts_of t)) [
     | inl e ↦ omega (arith, get_or_push (users_in t.users) 1 1 n (t.counted.long ∙ sym e), none_count (is_set_of n) (slots_of t) (none n e), ap {B = ℕ} (λ (c : Chain). if is_removed c then 0 else 1) (get_or_past t.lists.kept.items n (record { first = 0; count = 0 }) (omega arith)))
     | inr ne ↦ omega (arith, t.counted.each n (omega arith), get_or_append_left (users_in t.users) (1 ∷ []) 1 n (let long = t.counted.long in omega arith))
   ];
 }
   where
     none : (n : ℕ) → n ≡ layouts_of t → (p : ℕ) → is_set_of n (slot_at (slots_of t) p) ≡ false
-    none n e p = elim (below_or p (length (slots_of t))) [
+    none n e p = elim (cases_lt p (length (slots_of t))) [
       | inl lt ↦ and_right _ _ (ne_eqb _ n (λ same. (let known = (t.sound.known p lt).there in omega arith)))
       | inr le ↦ ap (is_set_of n) (get_or_past (slots_of t) p no_slot le)
     ]

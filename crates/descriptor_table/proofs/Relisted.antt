@@ -2,6 +2,7 @@
 use Rattle.std.proofs.lemmas.Grind.{common_steps}
 use Rattle.std.proofs.Common.{◌≡◌, ◌≢◌, ℕ, zero, suc, refl, ◌+◌, ◌<◌, false, if◌then◌else◌, List, [], ◌∷◌, length, get_or, set, map, sym, ap, subst, ◌∙◌, arith, ne_eqb}
 use Rattle.std.proofs.lemmas.List.{get_or_default, get_or-set_other, get_or-set_same, get_or_past, length-map, length-set, map-set}
+use Rattle.std.proofs.lemmas.Bool.{cases_eq, cases_lt}
 use Rattle.descriptor_table.specs.Giving.{list_of}
 use Rattle.descriptor_table.specs.Lists.{HasList, Relisted, chains_in, layouts_in, removed_in}
 use Rattle.descriptor_table.specs.Slots.{chain_at, is_removed, shown}
@@ -9,7 +10,6 @@ use Rattle.descriptor_table.specs.declared.giving.Group.{Group}
 use Rattle.descriptor_table.specs.declared.giving.Group.TheVariants.{Going, KeptOf}
 use Rattle.descriptor_table.specs.declared.lists.Lists.{Lists}
 use Rattle.descriptor_table.specs.declared.slot.Chain.{Chain}
-use Rattle.descriptor_table.proofs.Counting.{below_or, same_or}
 
 -- a list that isn't that of a removed layout shows as it is
 shown_same : (c : Chain) → is_removed c ≡ false → shown c ≡ c
@@ -39,7 +39,7 @@ module _ (l : Lists) (layout : ℕ) where
     chain_written = ap (λ x. l.vacant ∷ l.going ∷ x) (map-set shown l.kept.items layout c) ∙ ap (λ k. set (chains_in l) k (shown c)) (sym (after_two layout))
 
     removed_stays : layout < layouts_in l → removed_in l layout ≡ false → is_removed c ≡ false → (n : ℕ) → is_removed (chain_at (set l.kept.items layout c) n) ≡ removed_in l n
-    removed_stays within there now n = grind (arith, common_steps, same_or n layout, get_or-set_same, get_or-set_other)
+    removed_stays within there now n = grind (arith, common_steps, cases_eq n layout, get_or-set_same, get_or-set_other)
 
     pub relisted : HasList (KeptOf layout) l → c.count < 4294967295 → (new : Lists) → new.vacant ≡ l.vacant → new.going ≡ l.going → new.kept.items ≡ set l.kept.items layout c → Relisted (layout + 2) c l new
     relisted there few new vacant going kept =
@@ -53,7 +53,7 @@ module _ (l : Lists) (layout : ℕ) where
 -- a group whose list has slots has a list
 pub group_there : (l : Lists) (group : Group) → (chain_at (chains_in l) (list_of group)).count ≢ 0 → HasList group l
 group_there l Going some = tt
-group_there l (KeptOf layout) some = grind (arith, common_steps, chain_was l layout, below_or layout (layouts_in l), get_or_past)
+group_there l (KeptOf layout) some = grind (arith, common_steps, chain_was l layout, cases_lt layout (layouts_in l), get_or_past)
 
 -- the list of a group that was read became another one
 pub regrouped : (l new : Lists) (group : Group) (layout : ℕ) → group ≡ KeptOf layout → HasList group l → (c : Chain) → c ≡ get_or l.kept.items layout c → (f : Chain → Chain) → (f (chain_at (chains_in l) (list_of group))).count < 4294967295 → new.vacant ≡ l.vacant → new.going ≡ l.going → new.kept.items ≡ set l.kept.items layout (f c) → Relisted (list_of group) (f (chain_at (chains_in l) (list_of group))) l new

@@ -1,10 +1,9 @@
 -- How many sets are kept of several layouts together: the loop of `SetTable::kept_total`, at its start, with one layout more, and with all.
 use Rattle.std.proofs.lemmas.Grind.{common_steps}
 use Rattle.std.proofs.Common.{◌≡◌, ℕ, ◌+◌, ◌≤◌, ◌&&◌, nat_lt, Bool, List, arith}
-use Rattle.std.proofs.lemmas.Bool.{le-ltb, lt-ltb}
+use Rattle.std.proofs.lemmas.Bool.{cases_eq, le-ltb, lt-ltb}
 use Rattle.descriptor_table.specs.Slots.{HasLists, Slot, count, is_kept_of}
 use Rattle.descriptor_table.specs.Tables.{is_kept}
-use Rattle.descriptor_table.proofs.Counting.{same_or}
 use Rattle.descriptor_table.proofs.Counts.{bit, count_as, count_split, none_count}
 
 module _ {T : Type 0} where
@@ -13,7 +12,7 @@ module _ {T : Type 0} where
   kept_before n s = is_kept s && nat_lt s.layout n
 
   kept_split : (n : ℕ) (s : Slot T) → bit (kept_before (n + 1) s) ≡ bit (kept_before n s) + bit (is_kept_of n s)
-  kept_split n s = grind (arith, common_steps, bit, same_or, lt-ltb, le-ltb)
+  kept_split n s = grind (arith, common_steps, bit, cases_eq, lt-ltb, le-ltb)
 
   -- no layout is before the first
   pub kept_start : (slots : List (Slot T)) → count (kept_before 0) slots ≡ 0

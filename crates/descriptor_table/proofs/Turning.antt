@@ -4,14 +4,13 @@
 use Rattle.std.proofs.lemmas.Grind.{common_steps}
 use Rattle.std.proofs.Common.{◌≡◌, ◌≢◌, ℕ, zero, suc, ◌+◌, ◌<◌, ◌≤◌, ◌⊎◌, ◌&&◌, Bool, true, false, if◌then◌else◌, List, [], ◌∷◌, length, set, ne_eqb, is_some, inl, refl, sym, ap, ◌∙◌, arith, nat_le, rules}
 use Rattle.std.proofs.lemmas.List.{length-set, set-set}
-use Rattle.std.proofs.lemmas.Bool.{ltb-false, true≢false}
+use Rattle.std.proofs.lemmas.Bool.{cases_eq, ltb-false, true≢false}
 use Rattle.descriptor_table.specs.Slots.{IsNowhere, Slot, count, is_due, is_in, slot_at, waits_for}
 use Rattle.descriptor_table.specs.Tables.{Settings, CanBeHeld, IsBack, MayBecome, Picks, Stays, Turns, removed_of, holds, is_kept, next_use, stays, used_for, Becomes, settings_of}
 use Rattle.descriptor_table.specs.declared.set_table.SetTable.{SetTable}
 use Rattle.descriptor_table.specs.declared.slot.Use.{Use}
 use Rattle.descriptor_table.specs.declared.slot.Use.TheVariants.{Going, Kept, Taken}
 use Rattle.descriptor_table.proofs.Chains.{and_true, lists_apart, nowhere_out}
-use Rattle.descriptor_table.proofs.Counting.{same_or}
 use Rattle.descriptor_table.proofs.Counts.{bit, count_set, same_count}
 use Rattle.descriptor_table.proofs.Listed.{other_slots, slot_set, with_use}
 
@@ -35,7 +34,7 @@ module _ {T : Type 0} where
         → test (slot_at now p) ≡ true → new ≡ set now p s → ((o n : Slot T) → becomes now o n → becomes new o n)
         → ((o n : Slot T) → becomes now o n → test n ≡ false) → becomes new (slot_at now p) s
         → Turning test becomes old new
-    turn_step old now new p s turning within was is grows done turned = search (rules, length-set, other_slots, same_or, slot_set, true≢false)
+    turn_step old now new p s turning within was is grows done turned = search (rules, length-set, other_slots, cases_eq, slot_set, true≢false)
 
     -- no slot is left that passes the test
     pub turn_end : (old now : List (Slot T)) → Turning test becomes old now → ((p : ℕ) → test (slot_at now p) ≡ false) → Turns test becomes old now
@@ -110,7 +109,7 @@ module _ {T : Type 0} where
 
   -- a step of a loop at a place: a slot that passes the test comes to be in use for something, and doesn't pass it then
   pub use_one : (test : Slot T → Bool) (u : Use) (old now new : List (Slot T)) (p : ℕ) → Turning test (λ l o n. n ≡ used_for u o) old now → p < length now → new ≡ (if test (slot_at now p) then set now p (used_for u (slot_at now p)) else now) → ((s : Slot T) → test (used_for u s) ≡ false) → TurnsOne test (λ l o n. n ≡ used_for u o) old now new p
-  use_one test u old now new p turning within is out = search (rules, other_slots, same_or, slot_set, turn_step, with_use)
+  use_one test u old now new p turning within is out = search (rules, other_slots, cases_eq, slot_set, turn_step, with_use)
 
   -- a set that goes is in no list of kept sets
   pub going_out : (k : ℕ) (s : Slot T) → 2 ≤ k → is_in k (used_for Going s) ≡ false

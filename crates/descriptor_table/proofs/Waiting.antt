@@ -2,12 +2,12 @@
 use Rattle.std.proofs.lemmas.Grind.{common_steps}
 use Rattle.std.proofs.Common.{◌≡◌, ◌≢◌, ℕ, zero, suc, ◌<◌, ◌≤◌, true, false, List, [], ◌∷◌, insert, length, get_or, set, inl, inr, refl, sym, ap, subst, ◌∙◌, arith, rules}
 use Rattle.std.proofs.lemmas.List.{length-set}
-use Rattle.std.proofs.lemmas.Bool.{true≢false}
+use Rattle.std.proofs.lemmas.Bool.{cases_eq, true≢false}
 use Rattle.std.proofs.lemmas.List.Sorted.{IsNonDecreasingBy-drop, IsNonDecreasingBy-insert}
 use Rattle.std.specs.List.Sorted.{IsNonDecreasingBy, IsPartitionPoint}
 use Rattle.descriptor_table.specs.Places.{times}
 use Rattle.descriptor_table.specs.Slots.{IsQueue, Slot, frame_of, is_due, slot_at, waits}
-use Rattle.descriptor_table.proofs.Counting.{same_or, times_here, times_there}
+use Rattle.descriptor_table.proofs.Counting.{times_here, times_there}
 use Rattle.descriptor_table.proofs.Counts.{lists_few}
 use Rattle.descriptor_table.proofs.Listed.{first_passes, lists_other, lists_pop, lists_push, not_listed, one_none, other_slots, slot_set, test_within}
 
@@ -26,7 +26,7 @@ apart_at p (q ∷ l) (suc i) d none lt = apart_at p l i d (omega arith) (omega a
 -- what holds all along a list holds of each place in it
 along : (P : ℕ → Type 0) (l : List ℕ) (d : ℕ) → ((i : ℕ) → i < length l → P (get_or l i d)) → (p : ℕ) → times p l ≢ 0 → P p
 along P [] d each p is = absurd (is refl)
-along P (q ∷ l) d each p is = elim (same_or p q) [
+along P (q ∷ l) d each p is = elim (cases_eq p q) [
   | inl e ↦ subst P (sym e) (each 0 (omega arith))
   | inr ne ↦ along P l d (λ i lt. each (suc i) (omega arith)) p (λ none. is (times_there p q l ne ∙ none))
 ]
@@ -82,7 +82,7 @@ module _ {T : Type 0} where
       put_queue f i newest' of le point more is = record {
         has = λ q. times_insert q p l i ∙ lists_push waits slots p s l queue.has within was now q;
         rises = IsNonDecreasingBy-insert (frame (set slots p s)) l i p still_rises le (search (rules, slot_set)) (search (rules, slot_set));
-        bound = grind (arith, common_steps, other_slots, same_or, slot_set);
+        bound = grind (arith, common_steps, other_slots, cases_eq, slot_set);
       }
 
   -- the first set leaves the queue

@@ -2,9 +2,9 @@ use Rattle.std.proofs.lemmas.Grind.{common_steps}
 use Rattle.std.proofs.Common.{◌≡◌, ◌≢◌, ℕ, Bool, true, if◌then◌else◌, is_some, inl, inr, refl, sym, ap, ◌∙◌, arith, eq-eqb, ne_eqb, rules, [], Some, length, length-set}
 use Rattle.std.proofs.lemmas.List.Elements.{All-cons, All-nil}
 use Rattle.gpu_descriptor.specs.declared.layout.SetLayout.{SetLayout}
+use Rattle.std.proofs.lemmas.Bool.{cases_eq}
 use Rattle.descriptor_table.specs.Slots.{Slot, slot_at}
 use Rattle.descriptor_table.specs.Tables.{Settings, removed_with, vacated}
-use Rattle.descriptor_table.proofs.Counting.{same_or}
 use Rattle.descriptor_table.proofs.Counts.{none_count}
 use Rattle.descriptor_table.proofs.Naming.{names_kept}
 use Rattle.descriptor_table.proofs.Listed.{other_slots, slot_set, test_within}
@@ -41,7 +41,7 @@ invariant_of-self-clause-sets g c =
     let s = settles.stays.settings in
     let d = (goal.at.invariant_of-self-clause-sets g c).After-place in
     sets_as NoneComes (layout_slots old.layouts) (layout_slots c.remove.new.self) old.manager old.store c.remove_layout.new.self settles.sets settles.rest (λ n x known none at. absurd none)
-    (λ n. elim (same_or n place) [
+    (λ n. elim (cases_eq n place) [
       | inl e ↦ inr (inr (ap (λ (s : Settings). s.removed n) s ∙ ap (λ b. if b then true else removed_in old.store n) (eq-eqb n place e), ap (λ n. (slot_at (layout_slots c.remove.new.self) n).set) e ∙ ap (λ (s : Slot (SetLayout _)). s.set) (gone g d)))
       | inr ne ↦ inl (others g d n ne, ap (λ (s : Settings). s.removed n) s ∙ removed_other place (removed_in old.store) n ne)
     ])

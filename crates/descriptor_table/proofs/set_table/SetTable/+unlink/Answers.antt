@@ -1,12 +1,12 @@
 use Rattle.std.proofs.lemmas.Grind.{common_steps}
 use Rattle.std.proofs.Common.{◌≡◌, ◌≢◌, ◌∙◌, ◌+◌, ◌<◌, ℕ, true, length, List, refl, sym, ap, arith, rules}
 use Rattle.std.proofs.lemmas.List.{length-set}
+use Rattle.std.proofs.lemmas.Bool.{cases_eq}
 use Rattle.descriptor_table.specs.Slots.{Slot, count, is_kept_of, slot_at}
 use Rattle.descriptor_table.specs.Tables.{Settings, Picks, slots_of, used_for}
 use Rattle.descriptor_table.specs.declared.giving.Group.TheVariants.{KeptOf}
 use Rattle.descriptor_table.specs.declared.slot.Use.TheVariants.{Kept, Taken}
 use Rattle.descriptor_table.proofs.Chains.{taken_no_list}
-use Rattle.descriptor_table.proofs.Counting.{same_or}
 use Rattle.descriptor_table.proofs.Counts.{group_has, some_count, bit, chain_counts, count_set}
 use Rattle.descriptor_table.proofs.Holding.{all_same, used_same}
 use Rattle.descriptor_table.proofs.Listed.{other_slots, slot_set, test_within, with_use}
@@ -42,7 +42,7 @@ module _ {T : Type 0} (layout first place : ℕ) (old mid : List (Slot T)) (pick
     long = ap length left ∙ length-set mid place (used_for Taken (slot_at mid place)) ∙ ap length picks.slots ∙ length-set old first (used_for Taken (slot_at old first))
 
     all_back : (new : List (Slot T)) → new ≡ with_use first Kept out → new ≡ with_use place Taken old
-    all_back new made = search (rules, all_same, as_was, first_again, length-set, long, other_slots, same_or, slot_set, test_within, there, with_use)
+    all_back new made = search (rules, all_same, as_was, first_again, length-set, long, other_slots, cases_eq, slot_set, test_within, there, with_use)
 
 pub unlink-requires : goal.unlink-requires
 unlink-requires g t c κs within =

@@ -1,9 +1,9 @@
 use Rattle.std.proofs.Common.{◌≤◌, ◌+◌, inl, inr, sym, subst, ap, arith}
 use Rattle.std.proofs.lemmas.List.{get_or_past, length-map}
+use Rattle.std.proofs.lemmas.Bool.{cases_eq, cases_lt}
 use Rattle.descriptor_table.specs.Slots.{count, is_kept_of, shown}
 use Rattle.descriptor_table.specs.Tables.{Settings, chains_of, slots_of}
 use Rattle.descriptor_table.specs.declared.slot.Chain.{Chain}
-use Rattle.descriptor_table.proofs.Counting.{below_or, same_or}
 use Rattle.descriptor_table.proofs.Counts.{chain_counts}
 use Rattle.descriptor_table.proofs.Turning.{stays_more, trim_more, trim_others}
 use Rattle.descriptor_table.proofs.set_table.SetTable.trim.Goals as goal
@@ -19,11 +19,11 @@ loop-layout-preserved g c =
     let two : 2 ≤ k + 2 = omega arith in
     record {
       turning = trim_more (k + 2) two now new e.turns.slots old inv.turning;
-      few = λ j lt. elim (same_or j k) [
+      few = λ j lt. elim (cases_eq j k) [
         | inl same ↦ subst (λ j. count (is_kept_of j) new ≤ c.args.max) (sym same) e.few
         | inr ne ↦ (let a = trim_others (k + 2) two now new e.turns.slots (j + 2) (omega arith) (λ e. ne (omega arith)) in let b = inv.few j (omega arith) in omega arith)
       ];
-      enough = λ j n le has. elim (same_or j k) [
+      enough = λ j n le has. elim (cases_eq j k) [
         | inl same ↦ subst (λ j. n ≤ count (is_kept_of j) new) (sym same) (e.as_many n le (inv.enough k n le (subst (λ j. n ≤ count (is_kept_of j) old) same has)))
         | inr ne ↦ (let a = trim_others (k + 2) two now new e.turns.slots (j + 2) (omega arith) (λ e. ne (omega arith)) in let b = inv.enough j n le has in omega arith)
       ];
@@ -32,7 +32,7 @@ loop-layout-preserved g c =
 
 -- no set of a layout past the last is kept
 pub returns-clause-few : goal.returns-clause-few
-returns-clause-few g c = λ n. elim (below_or n c.loop-layout.layout) [
+returns-clause-few g c = λ n. elim (cases_lt n c.loop-layout.layout) [
   | inl lt ↦ c.loop-layout.invariant.few n lt
   | inr le ↦ (
       let s = c.loop-layout.self in
