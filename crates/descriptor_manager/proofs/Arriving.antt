@@ -9,7 +9,7 @@ use Rattle.descriptor_table.specs.Tables.{is_kept, is_held_use}
 use Rattle.descriptor_table.specs.declared.slot.Use.TheVariants.{Vacant}
 use Rattle.descriptor_table.specs.declared.slot.Use.{Use}
 use Rattle.descriptor_table.proofs.Counts.{none_count}
-use Rattle.descriptor_manager.specs.Stores.{AreCleaned, IsAtRest, KeepsStore, Settles, is_placed, slots_in}
+use Rattle.descriptor_manager.specs.Stores.{AreCleaned, IsAtRest, SettlesTo, StoreStays, is_placed, slots_in}
 use Rattle.descriptor_manager.specs.declared.store.Store.{Store}
 
 -- a set that was kept may be gone, and any other is there
@@ -56,5 +56,5 @@ module _ {T : Type 0} where
 
 module _ {L P S D : Type 0} {d : Ghosts D L P S} where
   -- if each slot became what `Arrives` says, the store settles
-  pub arrived : (comes : ℕ → DescriptorSet S → Type 0) (old new : Store L P S D d) → ((p : ℕ) → Arrives comes (slot_at (slots_in old) p) (slot_at (slots_in new) p)) → new.coming.items ≡ [] → IsAtRest old → KeepsStore old new → Settles comes old new
+  pub arrived : {removed : ℕ → Bool} {max : ℕ} (comes : ℕ → DescriptorSet S → Type 0) (old new : Store L P S D d) → ((p : ℕ) → Arrives comes (slot_at (slots_in old) p) (slot_at (slots_in new) p)) → new.coming.items ≡ [] → IsAtRest old → StoreStays removed max old new → SettlesTo removed max comes old new
   arrived comes old new arrives none rest stays = grind (arith, common_steps)

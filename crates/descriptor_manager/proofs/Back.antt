@@ -14,8 +14,8 @@ use Rattle.descriptor_table.proofs.Renewing.{kept_full}
 use Rattle.descriptor_table.proofs.Turning.{count_same, going_out}
 use Rattle.descriptor_table.proofs.Counts.{count_none}
 use Rattle.descriptor_manager.specs.Stores.{AreCleaned}
-use Rattle.descriptor_manager.proofs.Following.{ArePlaced, follows_aged, follows_then, follows_vacated, none_goes, follows_same}
-use Rattle.descriptor_manager.proofs.Settling.{Follows}
+use Rattle.descriptor_manager.proofs.Following.{ArePlaced, follows_vacated, none_goes}
+use Rattle.descriptor_manager.proofs.Arriving.{Arrives, same_arrives}
 
 module _ {T : Type 0} where
   -- the same sets are there, if each slot that turns has its set still
@@ -63,13 +63,6 @@ module _ {T : Type 0} where
       by_test : (p : ℕ) → (c : Bool) → is_kept (slot_at old p) ≡ c → slot_at new p ≡ (if is_kept (slot_at old p) then vacated (aged (slot_at old p)) else aged (slot_at old p))
       by_test p false e = search (rules, none_goes)
       by_test p true e = let here = aged_all.here p refl in let back = kept_returned a b new trims few gives p (ap is_kept here ∙ e) in search rules
-
-  -- and so each slot follows what it was
-  pub follow_cleaned : (old new : List (Slot T)) → AreCleaned old new → (p : ℕ) → Follows (slot_at old p) (slot_at new p)
-  follow_cleaned old new c p = by_test (is_kept (slot_at old p)) refl (c.here p refl)
-    where
-      by_test : (b : Bool) → is_kept (slot_at old p) ≡ b → slot_at new p ≡ (if is_kept (slot_at old p) then vacated (aged (slot_at old p)) else aged (slot_at old p)) → Follows (slot_at old p) (slot_at new p)
-      by_test x0 e is = search (rules, follows_aged, follows_then, follows_vacated)
 
 -- The slots are `a` at first, `b` once those that wait go, `c` once the held ones go, `d` once the kept ones go, and `new` once all that
 -- go were returned. `one`, `two` and `three` are what the slot at a place is in `b`, `c` and `d`.
@@ -135,5 +128,5 @@ module _ {T : Type 0} (old new : List (Slot T)) (left : Turns (λ s. is_some s.s
   pub left_none : (slot_at new p).set ≡ None
   left_none = grind (arith, common_steps, stays_or)
 
-  pub left_follows : Follows (slot_at old p) (slot_at new p)
-  left_follows = grind (arith, common_steps, follows_same, follows_vacated, stays_or)
+  pub left_follows : (comes : ℕ → T → Type 0) → Arrives comes (slot_at old p) (slot_at new p)
+  left_follows comes = search (rules, same_arrives, follows_vacated, stays_or)

@@ -1,15 +1,16 @@
--- Each kind of change of a slot follows what it was (`Follows`, in `Settling`): its set stays or leaves, and is at rest if it was.
+-- Each kind of change of a slot by which no set comes is one that `Arrives` allows: its set stays or leaves, and is at rest if it was.
 -- For the calls of `Store` by which sets are freed, wait, or go.
 use Rattle.std.proofs.lemmas.Grind.{common_steps}
 use Rattle.std.proofs.Common.{◌≡◌, ℕ, ◌+◌, ◌&&◌, ◌||◌, not, Bool, true, false, List, length, is_some, inl, inr, subst, arith}
+use Rattle.std.proofs.lemmas.Option.{none-some}
 use Rattle.descriptor_table.specs.Slots.{Slot, goes, in_list, slot_at, waits_for}
-use Rattle.descriptor_table.specs.Tables.{TurnEach, Turns, aged, is_held_use, place_at, used_for, vacated, IsBack}
+use Rattle.descriptor_table.specs.Tables.{TurnEach, Turns, is_held_use, place_at, used_for, vacated, IsBack}
 use Rattle.descriptor_table.specs.declared.handle.SetHandle.{SetHandle}
 use Rattle.descriptor_table.specs.declared.slot.Use.{Use}
 use Rattle.descriptor_table.specs.declared.slot.Use.TheVariants.{Waits}
 use Rattle.descriptor_table.proofs.Holding.{named_or}
 use Rattle.descriptor_manager.specs.Stores.{is_placed}
-use Rattle.descriptor_manager.proofs.Settling.{Follows}
+use Rattle.descriptor_manager.proofs.Arriving.{Arrives, same_arrives}
 
 -- what is_placed asks of a use
 abbrev placed_use : Use → ℕ → ℕ → Bool → Bool
@@ -28,34 +29,24 @@ module _ {T : Type 0} where
     pub none_goes : (p : ℕ) → goes (slot_at slots p) ≡ false
     none_goes p = let s = slot_at slots p in going_use s.used s.layout s.generation (is_some s.set) (placed p)
 
-  module _ where
-    -- changes of a slot that `Follows` allows: none, aged, vacated, one after another, back, and left
-    pub follows_same : (o n : Slot T) → n ≡ o → Follows o n
-    follows_same o n e = grind (arith, common_steps)
+  module _ {comes : ℕ → T → Type 0} where
+    -- changes of a slot by which no set comes: it is vacated, a set that was freed is kept or left, and a set waits
+    pub follows_vacated : (o n : Slot T) → n ≡ vacated o → Arrives comes o n
+    follows_vacated o n e = grind (arith, common_steps, none-some)
 
-    pub follows_aged : (o n : Slot T) → n ≡ aged o → Follows o n
-    follows_aged o n e = grind (arith, common_steps)
+    pub follows_back : (removed : ℕ → Bool) (max : ℕ) (new : List (Slot T)) (o n : Slot T) → IsBack vacated removed max new o n → Arrives comes o n
+    follows_back removed max new o n x5 = grind (arith, common_steps, none-some)
 
-    pub follows_vacated : (o n : Slot T) → n ≡ vacated o → Follows o n
-    follows_vacated o n e = grind (arith, common_steps)
-
-    pub follows_then : (o m n : Slot T) → Follows o m → Follows m n → Follows o n
-    follows_then o m n one two = grind (arith, common_steps)
-
-    pub follows_back : (removed : ℕ → Bool) (max : ℕ) (new : List (Slot T)) (o n : Slot T) → IsBack vacated removed max new o n → Follows o n
-    follows_back removed max new o n x5 = grind (arith, common_steps)
+    pub follows_waits : (f : ℕ) (o n : Slot T) → n ≡ used_for (Waits f) o → Arrives comes o n
+    follows_waits f o n e = grind (arith, common_steps, placed_use)
 
     -- each slot follows, since those that turn do
-    pub follow_turns : {test : Slot T → Bool} {becomes : List (Slot T) → Slot T → Slot T → Type 0} {old new : List (Slot T)} → Turns test becomes old new → ((o n : Slot T) → becomes new o n → Follows o n) → (p : ℕ) → Follows (slot_at old p) (slot_at new p)
-    follow_turns turns each p = grind (arith, common_steps, follows_same)
+    pub follow_turns : {test : Slot T → Bool} {becomes : List (Slot T) → Slot T → Slot T → Type 0} {old new : List (Slot T)} → Turns test becomes old new → ((o n : Slot T) → becomes new o n → Arrives comes o n) → (p : ℕ) → Arrives comes (slot_at old p) (slot_at new p)
+    follow_turns turns each p = grind (arith, common_steps, same_arrives)
 
-  -- a set waits for the frame
-  pub follows_waits : (f : ℕ) (o n : Slot T) → n ≡ used_for (Waits f) o → Follows o n
-  follows_waits f o n e = grind (arith, common_steps, placed_use)
-
-  -- the slots of handles follow, and so do all others, as they are as they were
-  pub follow_each : {handles : List SetHandle} {becomes : List (Slot T) → Slot T → Slot T → Type 0} {old new : List (Slot T)} → TurnEach handles becomes old new → ((o n : Slot T) → becomes new o n → Follows o n) → (p : ℕ) → Follows (slot_at old p) (slot_at new p)
-  follow_each {handles} {old = old} {new} turns each p = elim (named_or (length handles) (place_at handles) p) [
-    | inl found ↦ subst (λ p. Follows (slot_at old p) (slot_at new p)) found.2 (each _ _ (turns.named found.0 found.1))
-    | inr apart ↦ follows_same _ _ (turns.rest p apart)
-  ]
+    -- the slots of handles follow, and so do all others, as they are as they were
+    pub follow_each : {handles : List SetHandle} {becomes : List (Slot T) → Slot T → Slot T → Type 0} {old new : List (Slot T)} → TurnEach handles becomes old new → ((o n : Slot T) → becomes new o n → Arrives comes o n) → (p : ℕ) → Arrives comes (slot_at old p) (slot_at new p)
+    follow_each {handles} {old = old} {new} turns each p = elim (named_or (length handles) (place_at handles) p) [
+      | inl found ↦ subst (λ p. Arrives comes (slot_at old p) (slot_at new p)) found.2 (each _ _ (turns.named found.0 found.1))
+      | inr apart ↦ same_arrives comes _ _ (turns.rest p apart)
+    ]

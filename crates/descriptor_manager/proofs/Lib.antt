@@ -15,5 +15,4 @@ mod Owned
 mod Remaining
 mod Requested
 mod Requests
-mod Settling
 mod Showing

@@ -15,14 +15,11 @@ module _ {L P S : Type 0} (means : Meaning L P S) where
   abbrev pub AreMeant : List (Slot (SetLayout L)) → Type 0
   AreMeant layouts = (p : ℕ) (known : SetLayout L) → (slot_at layouts p).set ≡ Some known → IsMeant means known
 
-  -- the set in each slot is of the layout that has its number, if one has
-  abbrev pub AreOwn : List (Slot (SetLayout L)) → List (Slot (DescriptorSet S)) → Type 0
-  AreOwn layouts slots = (p : ℕ) (x : DescriptorSet S) (known : SetLayout L) → (slot_at slots p).set ≡ Some x → (slot_at layouts (slot_at slots p).layout).set ≡ Some known → IsOfLayout means known.layout x.raw
-
 -- the sets of a store are at rest, and are of these layouts. Their handles have this number
 pub record HasSetsOf {L P S D : Type 0} {d : Ghosts D L P S} (layouts : List (Slot (SetLayout L))) (manager : ℕ) (s : Store L P S D d) : Type 0 where
   pub rest : IsAtRest s
-  pub own : AreOwn d.meaning layouts (slots_in s)
+  -- the set in each slot is of the layout that has its number, if one has
+  pub own : (p : ℕ) (x : DescriptorSet S) (known : SetLayout L) → (slot_at (slots_in s) p).set ≡ Some x → (slot_at layouts (slot_at (slots_in s) p).layout).set ≡ Some known → IsOfLayout d.meaning known.layout x.raw
   -- a layout that is there wasn't removed from the table, and the number of one that may come was
   pub there : (n : ℕ) → is_some (slot_at layouts n).set ≡ true → removed_in s n ≡ false
   pub free : (n : ℕ) → is_usable (slot_at layouts n) ≡ true → removed_in s n ≡ true

@@ -1,8 +1,7 @@
-use Rattle.std.proofs.lemmas.Grind.{common_steps}
-use Rattle.std.proofs.Common.{◌∙◌, rules, arith}
+use Rattle.std.proofs.Common.{◌∙◌, rules}
 use Rattle.descriptor_manager.proofs.Given.{accounted_as, exact_as}
-use Rattle.descriptor_manager.proofs.Back.{cleaned, follow_cleaned, turned_sets}
-use Rattle.descriptor_manager.proofs.Settling.{settled}
+use Rattle.descriptor_manager.proofs.Back.{cleaned, turned_sets}
+use Rattle.descriptor_manager.proofs.Arriving.{arrived, clears, clears_arrives}
 use Rattle.descriptor_manager.proofs.store.Store.cleanup.Goals.{After-trim}
 use Rattle.descriptor_manager.proofs.store.Store.cleanup.Goals as goal
 
@@ -15,4 +14,4 @@ pub returns-clause-cleaned : goal.returns-clause-cleaned
 returns-clause-cleaned g c = search (rules, cleaned)
 
 pub returns-clause-settles : goal.returns-clause-settles
-returns-clause-settles g c = grind (arith, common_steps, returns-clause-cleaned, settled, follow_cleaned)
+returns-clause-settles g c = arrived _ _ _ (λ p. clears_arrives _ _ _ (clears _ _ (returns-clause-cleaned g c) p)) (c.give.ensures.coming ∙ c.requires.rest.none_coming) c.requires.rest (search rules)

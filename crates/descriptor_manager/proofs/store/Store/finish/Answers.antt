@@ -5,7 +5,7 @@ use Rattle.descriptor_table.proofs.Turning.{due_full}
 use Rattle.descriptor_manager.proofs.Given.{accounted_as, exact_as}
 use Rattle.descriptor_manager.proofs.Back.{came_back, turned_sets}
 use Rattle.descriptor_manager.proofs.Following.{follow_turns, follows_back, none_goes}
-use Rattle.descriptor_manager.proofs.Settling.{settled}
+use Rattle.descriptor_manager.proofs.Arriving.{arrived}
 use Rattle.descriptor_manager.proofs.store.Store.finish.Goals.{After-give, After-settle_due}
 use Rattle.descriptor_manager.proofs.store.Store.finish.Goals as goal
 
@@ -22,4 +22,4 @@ pub returns-clause-back : goal.returns-clause-back
 returns-clause-back g c = record { turns = turns g c; back = c.give.ensures.frees.back }
 
 pub returns-clause-settles : goal.returns-clause-settles
-returns-clause-settles g c = search (rules, turns, settled, follow_turns, follows_back)
+returns-clause-settles g c = search (rules, turns, arrived, follow_turns, follows_back)

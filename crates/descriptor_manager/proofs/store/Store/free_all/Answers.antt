@@ -1,9 +1,8 @@
-use Rattle.std.proofs.lemmas.Grind.{common_steps}
-use Rattle.std.proofs.Common.{arith, ◌∙◌, is_some, rules}
+use Rattle.std.proofs.Common.{◌∙◌, is_some, rules}
 use Rattle.descriptor_table.specs.Tables.{Becomes, Turns, slots_of, vacated}
 use Rattle.descriptor_manager.proofs.Given.{accounted_as, exact_as}
 use Rattle.descriptor_manager.proofs.Back.{all_leave, left_follows, turned_sets}
-use Rattle.descriptor_manager.proofs.Settling.{settled}
+use Rattle.descriptor_manager.proofs.Arriving.{arrived}
 use Rattle.descriptor_manager.proofs.store.Store.free_all.Goals.{After-give, After-trim}
 use Rattle.descriptor_manager.proofs.store.Store.free_all.Goals as goal
 
@@ -20,4 +19,4 @@ pub returns-clause-frees : goal.returns-clause-frees
 returns-clause-frees g c = record { turns = left g (goal.at.returns-clause-frees g c).After-give; back = c.give.ensures.frees.back }
 
 pub returns-clause-settles : goal.returns-clause-settles
-returns-clause-settles g c = grind (arith, common_steps, left, settled, left_follows)
+returns-clause-settles g c = arrived _ _ _ (λ p. left_follows _ _ (left g (goal.at.returns-clause-settles g c).After-give) p _) (c.give.ensures.coming ∙ c.requires.rest.none_coming) c.requires.rest (search rules)

@@ -3,7 +3,7 @@ use Rattle.descriptor_table.specs.Tables.{IsBack, TurnEach, removed_of, slots_of
 use Rattle.descriptor_manager.proofs.Given.{accounted_as, exact_as}
 use Rattle.descriptor_manager.proofs.Following.{follow_each, follows_back}
 use Rattle.descriptor_manager.proofs.Listed.{back_each, settled_each}
-use Rattle.descriptor_manager.proofs.Settling.{settled}
+use Rattle.descriptor_manager.proofs.Arriving.{arrived}
 use Rattle.descriptor_manager.proofs.store.Store.free_each.Given.{Over}
 use Rattle.descriptor_manager.proofs.store.Store.free_each.Goals.{After-give, After-settle_held}
 use Rattle.descriptor_manager.proofs.store.Store.free_each.Goals as goal
@@ -28,4 +28,4 @@ pub returns-clause-settles : goal.returns-clause-settles
 returns-clause-settles g c =
     let s = c.args.self.now in
     let turns = back g (goal.at.returns-clause-settles g c).After-give in
-    settled s c.give.new.self (follow_each turns (follows_back (removed_of s.table) s.table.keep (slots_of c.give.new.self.table))) (c.give.ensures.coming ∙ c.requires.rest.none_coming) c.requires.rest (search rules)
+    arrived _ s c.give.new.self (follow_each turns (follows_back (removed_of s.table) s.table.keep (slots_of c.give.new.self.table))) (c.give.ensures.coming ∙ c.requires.rest.none_coming) c.requires.rest (search rules)

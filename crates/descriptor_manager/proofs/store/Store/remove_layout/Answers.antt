@@ -10,7 +10,7 @@ use Rattle.descriptor_manager.specs.Stores.{side_of, slots_in}
 use Rattle.descriptor_manager.proofs.Back.{kept_out}
 use Rattle.descriptor_manager.proofs.Following.{follow_turns, follows_vacated}
 use Rattle.descriptor_manager.proofs.Joining.{layout_stays}
-use Rattle.descriptor_manager.proofs.Settling.{settled}
+use Rattle.descriptor_manager.proofs.Arriving.{arrived}
 use Rattle.descriptor_manager.proofs.store.Store.remove_layout.Goals.{After-remove_layout}
 use Rattle.descriptor_manager.proofs.store.Store.remove_layout.Goals as goal
 
@@ -45,4 +45,4 @@ returns-clause-removes g c =
     }
 
 pub returns-clause-settles : goal.returns-clause-settles
-returns-clause-settles g c = search (rules, turns, settled, follow_turns, follows_vacated)
+returns-clause-settles g c = search (rules, turns, arrived, follow_turns, follows_vacated)

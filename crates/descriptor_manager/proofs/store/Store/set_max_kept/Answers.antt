@@ -5,8 +5,8 @@ use Rattle.descriptor_table.specs.Slots.{goes, slots_in}
 use Rattle.descriptor_table.specs.Tables.{Turns, Becomes, is_kept, slots_of, vacated, MayBecome}
 use Rattle.descriptor_manager.proofs.Given.{accounted_as, exact_as}
 use Rattle.descriptor_manager.proofs.Back.{given_kept, left, turned_sets}
-use Rattle.descriptor_manager.proofs.Following.{follow_turns, none_goes}
-use Rattle.descriptor_manager.proofs.Settling.{settled}
+use Rattle.descriptor_manager.proofs.Following.{follow_turns, follows_vacated, none_goes}
+use Rattle.descriptor_manager.proofs.Arriving.{arrived, same_arrives}
 use Rattle.descriptor_manager.proofs.store.Store.set_max_kept.Goals.{After-give, After-set_max_kept}
 use Rattle.descriptor_manager.proofs.store.Store.set_max_kept.Goals as goal
 
@@ -31,4 +31,4 @@ pub returns-clause-as_many : goal.returns-clause-as_many
 returns-clause-as_many g c = grind (arith, common_steps, given_kept, gives)
 
 pub returns-clause-settles : goal.returns-clause-settles
-returns-clause-settles g c = settled _ _ (follow_turns (all g c) (λ o n step. grind (arith, common_steps))) (c.give.ensures.coming ∙ c.requires.rest.none_coming) c.requires.rest (search rules)
+returns-clause-settles g c = arrived _ _ _ (follow_turns (all g c) (λ o n step. search (rules, follows_vacated, same_arrives))) (c.give.ensures.coming ∙ c.requires.rest.none_coming) c.requires.rest (search rules)

@@ -5,7 +5,7 @@ use Rattle.descriptor_table.proofs.Holding.{apart_once, has_taken}
 use Rattle.descriptor_manager.proofs.Given.{accounted_as, exact_as}
 use Rattle.descriptor_manager.proofs.Following.{follow_each, follows_waits}
 use Rattle.descriptor_manager.proofs.Listed.{each_sets, waited}
-use Rattle.descriptor_manager.proofs.Settling.{settled}
+use Rattle.descriptor_manager.proofs.Arriving.{arrived}
 use Rattle.descriptor_manager.proofs.store.Store.wait_each.Given.{Over}
 use Rattle.descriptor_manager.proofs.store.Store.wait_each.Goals.{After-wait_each}
 use Rattle.descriptor_manager.proofs.store.Store.wait_each.Goals as goal
@@ -25,4 +25,4 @@ invariant_of-self-2 g c =
     record { agree = search rules; exact = exact_as c.args.self.now same; accounted = accounted_as c.args.self.now same }
 
 pub returns-clause-settles : goal.returns-clause-settles
-returns-clause-settles g c = settled _ _ (follow_each (waits g (goal.at.returns-clause-settles g c).After-wait_each) (follows_waits c.args.frame)) c.requires.rest.none_coming c.requires.rest (search rules)
+returns-clause-settles g c = arrived _ _ _ (follow_each (waits g (goal.at.returns-clause-settles g c).After-wait_each) (follows_waits c.args.frame)) c.requires.rest.none_coming c.requires.rest (search rules)
