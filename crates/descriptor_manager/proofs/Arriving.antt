@@ -1,6 +1,6 @@
 -- What a slot is like after all kept sets went (`Clears`), and what slots may become when sets come to them (`Arrives`).
 use Rattle.std.proofs.lemmas.Grind.{common_steps}
-use Rattle.std.proofs.Common.{◌≡◌, ℕ, ◌⊎◌, ne_eqb, Bool, true, List, None, refl, rules, ◌+◌, ◌&&◌, ◌||◌, not, [], Option, Some, is_some, inl, sym, subst, arith}
+use Rattle.std.proofs.Common.{◌≡◌, ℕ, ◌⊎◌, ne_eqb, Bool, true, List, None, refl, rules, ◌+◌, ◌&&◌, ◌||◌, not, [], Some, is_some, inl, sym, subst, arith}
 use Rattle.std.proofs.lemmas.Option.{none-some}
 use Rattle.gpu_descriptor_types.specs.declared.device.DescriptorDevice.{Ghosts}
 use Rattle.gpu_descriptor.specs.declared.set.DescriptorSet.{DescriptorSet}
@@ -29,16 +29,16 @@ module _ {T : Type 0} where
   pub none_left : (old new : List (Slot T)) → AreCleaned old new → count is_kept new ≡ 0
   none_left old new c = search (rules, ne_eqb, none_count)
 
+-- whether a set in such a use is placed
+abbrev pub placed_in : Use → Bool → ℕ → ℕ → Bool
+placed_in u full layout generation = not full || ((is_held_use u && full) || ((waits_for (λ w. true) u && full) || in_list (layout + 2) u layout generation full))
+
 -- a slot's set was there under the same layout, or passes the test. If the slot was placed, it is
 pub record Arrives {T : Type 0} (comes : ℕ → T → Type 0) (o n : Slot T) : Type 0 where
   pub set : (x : T) → n.set ≡ Some x → ((o.set ≡ Some x) × (n.layout ≡ o.layout)) ⊎ comes n.layout x
   pub placed : is_placed o ≡ true → is_placed n ≡ true
 
 module _ {T : Type 0} where
-  -- whether a set in such a use is placed
-  abbrev pub placed_in : Use → Option T → ℕ → ℕ → Bool
-  placed_in u o layout generation = not (is_some o) || ((is_held_use u && is_some o) || ((waits_for (λ w. true) u && is_some o) || in_list (layout + 2) u layout generation (is_some o)))
-
   -- a set that is held, or waits for a frame, is placed
   pub used_placed : (s : Slot T) → is_some s.set ≡ true → (is_held_use s.used || waits_for (λ w. true) s.used) ≡ true → is_placed s ≡ true
   used_placed s full e = grind (arith, common_steps, placed_in)

@@ -1,23 +1,19 @@
 -- Each kind of change of a slot by which no set comes is one that `Arrives` allows: its set stays or leaves, and is at rest if it was.
 -- For the calls of `Store` by which sets are freed, wait, or go.
 use Rattle.std.proofs.lemmas.Grind.{common_steps}
-use Rattle.std.proofs.Common.{◌≡◌, ℕ, ◌+◌, ◌&&◌, ◌||◌, not, Bool, true, false, List, length, is_some, inl, inr, subst, arith}
+use Rattle.std.proofs.Common.{◌≡◌, ℕ, Bool, true, false, List, length, is_some, inl, inr, subst, arith}
 use Rattle.std.proofs.lemmas.Option.{none-some}
-use Rattle.descriptor_table.specs.Slots.{Slot, goes, in_list, slot_at, waits_for}
-use Rattle.descriptor_table.specs.Tables.{TurnEach, Turns, is_held_use, place_at, used_for, vacated, IsBack}
+use Rattle.descriptor_table.specs.Slots.{Slot, goes, in_list, slot_at}
+use Rattle.descriptor_table.specs.Tables.{TurnEach, Turns, place_at, used_for, vacated, IsBack}
 use Rattle.descriptor_table.specs.declared.handle.SetHandle.{SetHandle}
 use Rattle.descriptor_table.specs.declared.slot.Use.{Use}
 use Rattle.descriptor_table.specs.declared.slot.Use.TheVariants.{Waits}
 use Rattle.descriptor_table.proofs.Holding.{named_or}
 use Rattle.descriptor_manager.specs.Stores.{is_placed}
-use Rattle.descriptor_manager.proofs.Arriving.{Arrives, same_arrives}
-
--- what is_placed asks of a use
-abbrev placed_use : Use → ℕ → ℕ → Bool → Bool
-placed_use u layout generation full = not full || ((is_held_use u && full) || ((waits_for (λ w. true) u && full) || in_list (layout + 2) u layout generation full))
+use Rattle.descriptor_manager.proofs.Arriving.{Arrives, placed_in, same_arrives}
 
 -- a set that is held, waits or is kept doesn't go
-going_use : (u : Use) (layout generation : ℕ) (full : Bool) → placed_use u layout generation full ≡ true → in_list 1 u layout generation full ≡ false
+going_use : (u : Use) (layout generation : ℕ) (full : Bool) → placed_in u full layout generation ≡ true → in_list 1 u layout generation full ≡ false
 going_use u layout generation full e = grind (arith, common_steps)
 
 module _ {T : Type 0} where
@@ -38,7 +34,7 @@ module _ {T : Type 0} where
     follows_back removed max new o n x5 = grind (arith, common_steps, none-some)
 
     pub follows_waits : (f : ℕ) (o n : Slot T) → n ≡ used_for (Waits f) o → Arrives comes o n
-    follows_waits f o n e = grind (arith, common_steps, placed_use)
+    follows_waits f o n e = grind (arith, common_steps, placed_in)
 
     -- each slot follows, since those that turn do
     pub follow_turns : {test : Slot T → Bool} {becomes : List (Slot T) → Slot T → Slot T → Type 0} {old new : List (Slot T)} → Turns test becomes old new → ((o n : Slot T) → becomes new o n → Arrives comes o n) → (p : ℕ) → Arrives comes (slot_at old p) (slot_at new p)

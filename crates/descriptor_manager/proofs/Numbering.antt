@@ -1,6 +1,6 @@
 -- Layouts that come under numbers: for `SetManager::add_layout` and `add_number`. `layouts` are the slots of layouts before, `more` those after.
 use Rattle.std.proofs.lemmas.Grind.{common_steps}
-use Rattle.std.proofs.Common.{true≢false, false, true, ◌≡◌, ◌≢◌, ◌<◌, ◌≤◌, ◌&&◌, ℕ, Bool, [], ◌∷◌, List, Option, None, Some, is_some, length, slice_index_or, if◌then◌else◌, refl, sym, ap, ◌∙◌, subst, inl, inr, arith, rules, eq-eqb, ne_eqb}
+use Rattle.std.proofs.Common.{true≢false, false, true, ◌≡◌, ◌≢◌, ◌<◌, ◌≤◌, ◌&&◌, ℕ, [], ◌∷◌, List, Option, None, Some, is_some, length, slice_index_or, if◌then◌else◌, refl, sym, ap, ◌∙◌, subst, inl, inr, arith, rules, eq-eqb, ne_eqb, ◌==◌}
 use Rattle.std.proofs.Math.Bool.{and-false}
 use Rattle.std.proofs.lemmas.List.{get_or_past}
 use Rattle.gpu_descriptor_types.specs.declared.device.DescriptorDevice.{Ghosts}
@@ -8,7 +8,7 @@ use Rattle.gpu_descriptor.specs.declared.layout.SetLayout.{SetLayout}
 use Rattle.std.proofs.lemmas.Bool.{cases_eq, cases_lt}
 use Rattle.descriptor_table.specs.Sets.{NameEach, sets_of}
 use Rattle.descriptor_table.specs.Slots.{Slot, is_removed, is_set_of, slot_at}
-use Rattle.descriptor_table.specs.Tables.{is_usable, layouts_of, removed_of, removed_without}
+use Rattle.descriptor_table.specs.Tables.{is_usable, layouts_of, removed_of}
 use Rattle.descriptor_table.specs.declared.handle.SetHandle.{SetHandle}
 use Rattle.descriptor_table.specs.declared.set_table.SetTable.{SetTable}
 use Rattle.descriptor_table.proofs.Listed.{past_end}
@@ -56,12 +56,12 @@ module _ {L P S D : Type 0} {d : Ghosts D L P S} {layouts : List (Slot (SetLayou
 pub past_there : {T : Type 0} (t : SetTable T) (n : ℕ) → layouts_of t ≤ n → removed_of t n ≡ false
 past_there t n past = ap is_removed (get_or_past t.lists.kept.items n (record { first = 0; count = 0 }) past)
 
--- the number that a layout took isn't one of a removed layout any more, and others stay
-pub without_here : (layout n : ℕ) (removed : ℕ → Bool) → n ≡ layout → removed_without layout removed n ≡ false
-without_here layout n removed e = ap (λ b. if b then false else removed n) (eq-eqb n layout e)
+-- what is chosen by a test of two numbers: for the numbers of layouts that were removed
+pub if_here : {A : Type 0} (n layout : ℕ) (a b : A) → n ≡ layout → (if n == layout then a else b) ≡ a
+if_here n layout a b e = ap (λ t. if t then a else b) (eq-eqb n layout e)
 
-pub without_other : (layout n : ℕ) (removed : ℕ → Bool) → n ≢ layout → removed_without layout removed n ≡ removed n
-without_other layout n removed ne = ap (λ b. if b then false else removed n) (ne_eqb n layout ne)
+pub if_other : {A : Type 0} (n layout : ℕ) (a b : A) → n ≢ layout → (if n == layout then a else b) ≡ b
+if_other n layout a b ne = ap (λ t. if t then a else b) (ne_eqb n layout ne)
 
 -- names that came after memory was reserved
 pub names_from : {L P S D : Type 0} {d : Ghosts D L P S} (old mid new : LayoutRegistry L P S D d) (handles : List SetHandle) → KeepsLayouts old mid → NameEach handles (layouts_by mid) (layouts_by new) → NameEach handles (layouts_by old) (layouts_by new)

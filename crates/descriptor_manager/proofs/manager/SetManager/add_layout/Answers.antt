@@ -1,11 +1,11 @@
-use Rattle.std.proofs.Common.{◌≡◌, ◌<◌, inl, inr, refl, sym, ap, ◌∙◌, subst, arith}
+use Rattle.std.proofs.Common.{◌≡◌, ◌<◌, inl, inr, refl, sym, ap, ◌∙◌, subst, arith, false}
 use Rattle.std.specs.Prelude.{OnErr}
 use Rattle.descriptor_table.specs.Tables.{Settings, is_usable}
 use Rattle.descriptor_table.proofs.Listed.{test_within}
 use Rattle.descriptor_manager.specs.LayoutRegistries.{layout_slots}
 use Rattle.descriptor_manager.specs.Managers.{seen}
 use Rattle.descriptor_manager.specs.Stores.{removed_in}
-use Rattle.descriptor_manager.proofs.Numbering.{apart_from, gone, layout_used, number_left, seen_kept, sets_more, sets_over, without_here, without_other}
+use Rattle.descriptor_manager.proofs.Numbering.{apart_from, gone, layout_used, number_left, seen_kept, sets_more, sets_over, if_here, if_other}
 use Rattle.descriptor_manager.proofs.manager.SetManager.add_layout.Goals.{in-Some+else-is_usable, in_default}
 use Rattle.descriptor_manager.proofs.manager.SetManager.add_layout.Goals as goal
 
@@ -23,9 +23,9 @@ invariant_of-self-clause-sets g c =
     let r = c.in-Some.ensures.renews in
     let s = r.only.settings in
     sets_more old.store c.renew_layout.new.self number c.in-Some.ensures.contents
-    (λ n ne. (c.renew.ensures.others n ne, ap (λ (s : Settings). s.removed n) s ∙ without_other number n (removed_in old.store) ne))
+    (λ n ne. (c.renew.ensures.others n ne, ap (λ (s : Settings). s.removed n) s ∙ if_other n number false (removed_in old.store n) ne))
     (layout_used c.renew.new.self c.renew.result c.args.layout number (sym c.renew.ensures.place) c.renew.ensures.added) r.none
-    (ap (λ (s : Settings). s.removed number) s ∙ without_here number number (removed_in old.store) refl)
+    (ap (λ (s : Settings). s.removed number) s ∙ if_here number number false (removed_in old.store number) refl)
     (ap (λ (s : Settings). s.layouts) s ∙ old.sets.numbers ∙ sym c.renew.ensures.long) (ap (λ (s : Settings). s.number) s) old.sets
 
 pub returns-then-is_usable-clause-given : goal.returns-then-is_usable-clause-given
@@ -45,8 +45,8 @@ invariant_of-self-else-is_usable-clause-sets g c =
     let r = c.in-Some.ensures.renews in
     let s = r.only.settings in
     sets_more old.store c.renew_layout.new.self number c.in-Some.ensures.contents
-    (λ n ne. (refl, ap (λ (s : Settings). s.removed n) s ∙ without_other number n (removed_in old.store) ne)) (sym c.is_usable.ensures.usable ∙ c.if-is_usable.false) r.none
-    (ap (λ (s : Settings). s.removed number) s ∙ without_here number number (removed_in old.store) refl)
+    (λ n ne. (refl, ap (λ (s : Settings). s.removed n) s ∙ if_other n number false (removed_in old.store n) ne)) (sym c.is_usable.ensures.usable ∙ c.if-is_usable.false) r.none
+    (ap (λ (s : Settings). s.removed number) s ∙ if_here number number false (removed_in old.store number) refl)
     (ap (λ (s : Settings). s.layouts) s ∙ old.sets.numbers) (ap (λ (s : Settings). s.number) s) old.sets
 
 pub invariant_of-self-in_default-clause-sets : goal.invariant_of-self-in_default-clause-sets

@@ -1,10 +1,10 @@
 use Rattle.std.proofs.lemmas.Grind.{common_steps}
-use Rattle.std.proofs.Common.{◌≡◌, ◌≢◌, ℕ, Bool, true, if◌then◌else◌, is_some, inl, inr, refl, sym, ap, ◌∙◌, arith, eq-eqb, ne_eqb, rules, [], Some, length, length-set}
+use Rattle.std.proofs.Common.{◌≡◌, ◌≢◌, ℕ, true, is_some, inl, inr, refl, sym, ap, ◌∙◌, arith, rules, [], Some, length, length-set}
 use Rattle.std.proofs.lemmas.List.Elements.{All-cons, All-nil}
 use Rattle.gpu_descriptor.specs.declared.layout.SetLayout.{SetLayout}
 use Rattle.std.proofs.lemmas.Bool.{cases_eq}
 use Rattle.descriptor_table.specs.Slots.{Slot, slot_at}
-use Rattle.descriptor_table.specs.Tables.{Settings, removed_with, vacated}
+use Rattle.descriptor_table.specs.Tables.{Settings, vacated}
 use Rattle.descriptor_table.proofs.Counts.{none_count}
 use Rattle.descriptor_table.proofs.Naming.{names_kept}
 use Rattle.descriptor_table.proofs.Listed.{other_slots, slot_set, test_within}
@@ -16,11 +16,8 @@ use Rattle.descriptor_manager.proofs.Naming.{kept_as}
 use Rattle.descriptor_manager.proofs.Showing.{quiet_shown, turned}
 use Rattle.descriptor_manager.proofs.Owned.{layout_here, sets_as}
 use Rattle.descriptor_manager.proofs.manager.SetManager.remove_layout.Goals.{After-place}
+use Rattle.descriptor_manager.proofs.Numbering.{if_here, if_other}
 use Rattle.descriptor_manager.proofs.manager.SetManager.remove_layout.Goals as goal
-
--- other layouts are as they were
-removed_other : (layout : ℕ) (removed : ℕ → Bool) (n : ℕ) → n ≢ layout → removed_with layout removed n ≡ removed n
-removed_other layout removed n ne = ap (λ b. if b then true else removed n) (ne_eqb n layout ne)
 
 -- the layout is there
 here : (g : _) (c : After-place g) → (slot_at (layout_slots c.args.self.now.layouts) c.place.result).set ≡ Some c.in-Some.removed
@@ -42,8 +39,8 @@ invariant_of-self-clause-sets g c =
     let d = (goal.at.invariant_of-self-clause-sets g c).After-place in
     sets_as NoneComes (layout_slots old.layouts) (layout_slots c.remove.new.self) old.manager old.store c.remove_layout.new.self settles.sets settles.rest (λ n x known none at. absurd none)
     (λ n. elim (cases_eq n place) [
-      | inl e ↦ inr (inr (ap (λ (s : Settings). s.removed n) s ∙ ap (λ b. if b then true else removed_in old.store n) (eq-eqb n place e), ap (λ n. (slot_at (layout_slots c.remove.new.self) n).set) e ∙ ap (λ (s : Slot (SetLayout _)). s.set) (gone g d)))
-      | inr ne ↦ inl (others g d n ne, ap (λ (s : Settings). s.removed n) s ∙ removed_other place (removed_in old.store) n ne)
+      | inl e ↦ inr (inr (ap (λ (s : Settings). s.removed n) s ∙ if_here n place true (removed_in old.store n) e, ap (λ n. (slot_at (layout_slots c.remove.new.self) n).set) e ∙ ap (λ (s : Slot (SetLayout _)). s.set) (gone g d)))
+      | inr ne ↦ inl (others g d n ne, ap (λ (s : Settings). s.removed n) s ∙ if_other n place true (removed_in old.store n) ne)
     ])
     (ap (λ (s : Settings). s.layouts) s ∙ old.sets.numbers ∙ sym (ap length (c.in-Some.ensures.slots refl) ∙ length-set _ _ _)) (ap (λ (s : Settings). s.number) s) old.sets
 

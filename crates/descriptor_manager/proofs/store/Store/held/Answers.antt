@@ -1,5 +1,5 @@
 use Rattle.std.proofs.lemmas.Grind.{common_steps}
-use Rattle.std.proofs.Common.{◌≡◌, ℕ, suc, ◌+◌, ◌&&◌, true, false, List, [], ◌∷◌, length, Option, Some, is_some, refl, arith}
+use Rattle.std.proofs.Common.{◌≡◌, ℕ, suc, ◌+◌, ◌&&◌, true, false, List, [], ◌∷◌, length, Option, is_some, refl, arith}
 use Rattle.std.proofs.lemmas.Bool.{and_right}
 use Rattle.gpu_descriptor.specs.Caller.States.{outstanding_of}
 use Rattle.descriptor_table.specs.Sets.{joined, sets_in}
@@ -19,8 +19,8 @@ none_kept : (u : Use) (l g : ℕ) → in_list (l + 2) u l g false ≡ false
 none_kept u l g = grind (arith, common_steps)
 
 -- a set is held, waits or is kept, and only one of these
-one_of : {T : Type 0} (x : T) (u : Use) (l g : ℕ) → placed_in u (Some x) l g ≡ true → 1 ≡ bit (is_held_use u && true) + (bit (waits_for (λ w. true) u && true) + bit (in_list (l + 2) u l g true))
-one_of x u l g e = grind (arith, common_steps)
+one_of : (u : Use) (l g : ℕ) → placed_in u true l g ≡ true → 1 ≡ bit (is_held_use u && true) + (bit (waits_for (λ w. true) u && true) + bit (in_list (l + 2) u l g true))
+one_of u l g e = grind (arith, common_steps)
 
 module _ {T : Type 0} where
   -- a slot of a store at rest counts once if it has a set, by whichever of the three its set is
