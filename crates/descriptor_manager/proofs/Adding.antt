@@ -1,19 +1,19 @@
 -- A layout that comes into a slot and has a handle, and one that leaves: for `LayoutRegistry::add` and `remove`.
 use Rattle.std.proofs.lemmas.Grind.{common_steps}
-use Rattle.std.proofs.Common.{◌≡◌, ◌≢◌, ℕ, ◌<◌, true, false, List, [], ◌∷◌, set, Option, None, Some, IsSome, inl, inr, refl, sym, ap, subst, ◌∙◌, arith, rules}
+use Rattle.std.proofs.Common.{◌≡◌, ◌≢◌, ℕ, ◌<◌, true, false, List, [], ◌∷◌, set, Option, None, Some, IsSome, inl, inr, refl, sym, ap, subst, ◌∙◌, arith, rules, length, length-set}
 use Rattle.std.proofs.lemmas.Option.{same_Some}
 use Rattle.std.proofs.lemmas.Bool.{cases_eq}
 use Rattle.descriptor_table.specs.Sets.{LoseNames, NameEach, is_held, sets_of}
 use Rattle.descriptor_table.specs.Slots.{Slot, is_live, slot_at}
-use Rattle.descriptor_table.specs.Tables.{Puts, Renews, place_at, renewed, vacated}
+use Rattle.descriptor_table.specs.Tables.{Becomes, Puts, Renews, place_at, renewed, vacated}
 use Rattle.descriptor_table.specs.declared.handle.SetHandle.{SetHandle}
 use Rattle.descriptor_table.specs.declared.slot.Use.{Use}
 use Rattle.descriptor_table.specs.declared.slot.Use.TheVariants.{Held}
 use Rattle.descriptor_table.proofs.Holding.{held_is}
-use Rattle.descriptor_table.proofs.Naming.{names_lost}
 use Rattle.descriptor_table.proofs.Listed.{other_slots, slot_set}
 use Rattle.descriptor_manager.proofs.Arriving.{same_clears}
 use Rattle.descriptor_manager.proofs.Handing.{new_one}
+use Rattle.descriptor_manager.proofs.Showing.{lost_names}
 use Rattle.descriptor_manager.proofs.Joining.{are_named}
 
 module _ {T : Type 0} {number p layout : ℕ} {x : T} {u : Use} {handle : SetHandle} {old mid new : List (Slot T)} (puts : Puts layout x p old mid) (renews : Renews number p u handle mid new) where
@@ -39,10 +39,7 @@ module _ {T : Type 0} {number p : ℕ} {x : T} {handle : SetHandle} {old mid new
 -- a layout that leaves its slot
 module _ {T : Type 0} (number : ℕ) (h : SetHandle) (old new : List (Slot T)) where
   pub left_names : is_held number old h ≡ true → new ≡ set old h.place (vacated (slot_at old h.place)) → LoseNames (h ∷ []) (sets_of number 0 false old) (sets_of number 0 false new)
-  left_names held made =
-      let quiet : (i : ℕ) → i < 1 → _ = λ i lt. ap (λ (s : Slot T). is_live 0 false s.used) (here i lt) in
-      let generation : (i : ℕ) → i < 1 → _ = λ i lt. ap (λ (s : Slot T). s.generation) (here i lt) in
-      names_lost number 0 false (h ∷ []) old new (grind (arith, common_steps)) quiet generation (λ p apart. ap (λ l. slot_at l p) made ∙ other_slots old h.place (vacated (slot_at old h.place)) p (λ e. apart 0 (omega arith) (sym e)))
+  left_names held made = lost_names 0 false number {becomes = Becomes vacated} (grind (arith, common_steps)) (record { long = ap length made ∙ length-set _ _ _; named = here; rest = λ p apart. ap (λ l. slot_at l p) made ∙ other_slots old h.place (vacated (slot_at old h.place)) p (λ e. apart 0 (omega arith) (sym e)) }) (search rules)
     where
       here : (i : ℕ) → i < 1 → slot_at new (place_at (h ∷ []) i) ≡ vacated (slot_at old (place_at (h ∷ []) i))
       here x0 lt = grind (arith, common_steps)

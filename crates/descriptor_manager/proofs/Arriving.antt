@@ -1,7 +1,6 @@
 -- What a slot is like after all kept sets went (`Clears`), and what slots may become when sets come to them (`Arrives`).
 use Rattle.std.proofs.lemmas.Grind.{common_steps}
 use Rattle.std.proofs.Common.{◌≡◌, ℕ, ◌⊎◌, ne_eqb, Bool, true, List, None, refl, rules, ◌+◌, ◌&&◌, ◌||◌, not, [], Some, is_some, inl, sym, subst, arith}
-use Rattle.std.proofs.lemmas.Option.{none-some}
 use Rattle.gpu_descriptor_types.specs.declared.device.DescriptorDevice.{Ghosts}
 use Rattle.gpu_descriptor.specs.declared.set.DescriptorSet.{DescriptorSet}
 use Rattle.descriptor_table.specs.Slots.{Slot, count, slot_at, in_list, waits_for}
@@ -46,7 +45,7 @@ module _ {T : Type 0} where
   module _ (comes : ℕ → T → Type 0) where
     -- changes of a slot that `Arrives` allows: by a cleanup, one after another, and none
     pub clears_arrives : (o n : Slot T) → Clears o n → Arrives comes o n
-    clears_arrives o n c = grind (arith, common_steps, none-some, placed_in)
+    clears_arrives o n c = grind (arith, common_steps, placed_in)
 
     pub arrives_then : (o m n : Slot T) → Arrives comes o m → Arrives comes m n → Arrives comes o n
     arrives_then o m n a b = grind (arith, common_steps)

@@ -2,7 +2,6 @@
 -- For the calls of `Store` by which sets are freed, wait, or go.
 use Rattle.std.proofs.lemmas.Grind.{common_steps}
 use Rattle.std.proofs.Common.{◌≡◌, ℕ, Bool, true, false, List, length, is_some, inl, inr, subst, arith}
-use Rattle.std.proofs.lemmas.Option.{none-some}
 use Rattle.descriptor_table.specs.Slots.{Slot, goes, in_list, slot_at}
 use Rattle.descriptor_table.specs.Tables.{TurnEach, Turns, place_at, used_for, vacated, IsBack}
 use Rattle.descriptor_table.specs.declared.handle.SetHandle.{SetHandle}
@@ -28,10 +27,10 @@ module _ {T : Type 0} where
   module _ {comes : ℕ → T → Type 0} where
     -- changes of a slot by which no set comes: it is vacated, a set that was freed is kept or left, and a set waits
     pub follows_vacated : (o n : Slot T) → n ≡ vacated o → Arrives comes o n
-    follows_vacated o n e = grind (arith, common_steps, none-some)
+    follows_vacated o n e = grind (arith, common_steps)
 
     pub follows_back : (removed : ℕ → Bool) (max : ℕ) (new : List (Slot T)) (o n : Slot T) → IsBack vacated removed max new o n → Arrives comes o n
-    follows_back removed max new o n x5 = grind (arith, common_steps, none-some)
+    follows_back removed max new o n x5 = grind (arith, common_steps)
 
     pub follows_waits : (f : ℕ) (o n : Slot T) → n ≡ used_for (Waits f) o → Arrives comes o n
     follows_waits f o n e = grind (arith, common_steps, placed_in)
