@@ -1,7 +1,6 @@
 use Rattle.std.proofs.lemmas.Grind.{common_steps}
 use Rattle.descriptor_table.specs.Tables.{Settings, is_usable}
 use Rattle.std.proofs.Common.{◌≡◌, [], length, true≢false, sym, ap, ◌∙◌, arith}
-use Rattle.std.proofs.lemmas.Option.{none-some}
 use Rattle.descriptor_table.specs.Slots.{slot_at}
 use Rattle.descriptor_manager.specs.LayoutRegistries.{layout_slots}
 use Rattle.descriptor_manager.proofs.Owned.{found_none}
@@ -13,7 +12,7 @@ invariant_of-result-clause-sets g c =
     let store = c.new.ensures in
     record {
       rest = store.rest;
-      own = λ p x known full here. absurd (none-some x (sym (ap (λ l. (slot_at l p).set) store.slots) ∙ full));
+      own = λ p x known full here. absurd (let e = sym (ap (λ l. (slot_at l p).set) store.slots) ∙ full in cc);
       there = λ n some. ap (λ (s : Settings). s.removed n) store.settings;
       free = λ n usable. absurd (true≢false (sym usable ∙ ap (λ l. is_usable (slot_at l n)) none));
       numbers = ap (λ (s : Settings). s.layouts) store.settings ∙ ap length (sym none);
