@@ -34,10 +34,6 @@ first g c i lt some =
     let long = ap length (both g c) ∙ length-append a b in
     let names = handles_long g.N.SetName g.met.N.SetName.each c.hold_kept.new.names in
     let others = handles_long g.N.SetName g.met.N.SetName.each c.hold_coming.new.names in
-    let came = c.hold_coming.ensures.long in
-    let parts = c.split_at_mut-kept.ensures.front_len in
-    let rest = c.split_at_mut-kept.ensures.back_len in
-    let count = c.len.ensures in
     let coming = c.bring.new.self.coming.ok.0 in
     let less = (brings g c).besides i (omega arith) some in
     subst (λ p. is_kept_of c.args.layout (slot_at (slots_in c.bring.new.self) p) ≡ true)

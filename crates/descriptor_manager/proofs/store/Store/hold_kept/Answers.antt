@@ -22,8 +22,6 @@ loop-index-preserved g c =
     let handle = g.N.SetName.handle_of c.hold_next.result in
     let written = handles_written g.N.SetName g.met.N.SetName.each c.loop-index.names i c.hold_next.result handle refl in
     let all = handles_long g.N.SetName g.met.N.SetName.each c.loop-index.names in
-    let lt = c.loop-index-test.true in
-    let long = was.long in
     let here = held_stays c.args.layout c.args.used (handle ∷ []) (slots_in c.loop-index.self) (slots_in c.hold_next.new.self) s c.loop-index.self was.keeps.stays now.holds in
     let more = one_more g.N.SetName g.met.N.SetName.each s.table.number c.args.layout c.args.used c.requires.live c.loop-index.names i c.hold_next.result (slots_in s) (slots_in c.loop-index.self) (slots_in c.hold_next.new.self) (omega arith) was.holds here was.fit now.fits in
     record {
