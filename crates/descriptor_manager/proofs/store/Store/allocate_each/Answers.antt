@@ -8,5 +8,4 @@ pub returns-clause-requests : goal.returns-clause-requests
 returns-clause-requests g c =
     let h = g.N.SetName.handles_of c.hold_kept.new.names in
     let names = handles_long g.N.SetName g.met.N.SetName.each c.hold_kept.new.names in
-    let kept = c.kept_count.ensures.count in
     from_kept c.args.known.now.layout c.args.layout (length c.args.names.now) Held h c.args.self.now c.hold_kept.new.self tt refl c.requires.can.rest (omega arith) c.hold_kept.ensures.holds (λ i lt. c.hold_kept.ensures.were_kept i (omega arith)) c.hold_kept.ensures.as_many c.hold_kept.ensures.keeps c.hold_kept.ensures.coming

@@ -36,7 +36,6 @@ returns-in_err-bring g c =
 pub returns : goal.returns
 returns g c =
     let a = (goal.at.returns g c).In_ok-bring in
-    let fewer = c.hold_last.ensures.fewer in
     let one = one g a in
     let last = c.hold_last.ensures in
     from_asked _ _ _ _ _ c.bring.new.self c.requires.can.rest c.requires.short _ _ _ c.requires.live c.bring.ensures.stays c.in_ok-bring.ensures.asks

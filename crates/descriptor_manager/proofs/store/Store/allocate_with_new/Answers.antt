@@ -34,7 +34,6 @@ first g c i lt some =
     let long = ap length (both g c) ∙ length-append a b in
     let names = handles_long g.N.SetName g.met.N.SetName.each c.hold_kept.new.names in
     let others = handles_long g.N.SetName g.met.N.SetName.each c.hold_coming.new.names in
-    let coming = c.bring.new.self.coming.ok.0 in
     let less = (brings g c).besides i (omega arith) some in
     subst (λ p. is_kept_of c.args.layout (slot_at (slots_in c.bring.new.self) p) ≡ true)
     (sym (ap (λ l. place_at l i) (both g c) ∙ ap (λ (h : SetHandle). h.place) (get_or_append_left a b (record { manager = 0; place = 0; generation = 0 }) i (omega arith))))
