@@ -39,7 +39,11 @@ module _ {T : Type 0} {number p : ℕ} {x : T} {handle : SetHandle} {old mid new
 -- a layout that leaves its slot
 module _ {T : Type 0} (number : ℕ) (h : SetHandle) (old new : List (Slot T)) where
   pub left_names : is_held number old h ≡ true → new ≡ set old h.place (vacated (slot_at old h.place)) → LoseNames (h ∷ []) (sets_of number 0 false old) (sets_of number 0 false new)
-  left_names held made = lost_names 0 false number {becomes = Becomes vacated} (grind (arith, common_steps)) (record { long = ap length made ∙ length-set _ _ _; named = here; rest = λ p apart. ap (λ l. slot_at l p) made ∙ other_slots old h.place (vacated (slot_at old h.place)) p (λ e. apart 0 (omega arith) (sym e)) }) (search rules)
+  left_names held made = lost_names 0 false number {becomes = Becomes vacated} (grind (arith, common_steps)) (record {
+    long = ap length made ∙ length-set _ _ _;
+    named = here;
+    rest = λ p apart. ap (λ l. slot_at l p) made ∙ other_slots old h.place (vacated (slot_at old h.place)) p (λ e. apart 0 (omega arith) (sym e));
+  }) (search rules)
     where
       here : (i : ℕ) → i < 1 → slot_at new (place_at (h ∷ []) i) ≡ vacated (slot_at old (place_at (h ∷ []) i))
       here x0 lt = grind (arith, common_steps)

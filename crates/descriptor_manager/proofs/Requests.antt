@@ -39,11 +39,22 @@ module _ {L P S D : Type 0} {d : Ghosts D L P S} {R : Type 0} (known : L) (layou
       let held = held_stays layout u handles (slots_in ready) (slots_in new) old ready stays holds in
       let comes = ComesOf d.meaning known layout in
       record {
-        takes = record { ready = ready; enough = λ le. (enough le).0; asks = asks; kept_first = kept_first; holds = held; side = keeps.side; gained = gained ready new keeps.side none };
+        takes = record {
+          ready = ready;
+          enough = λ le. (enough le).0;
+          asks = asks;
+          kept_first = kept_first;
+          holds = held;
+          side = keeps.side;
+          gained = gained ready new keeps.side none;
+        };
         kept = λ le. (refl, (enough le).1, (enough le).2);
         refused = tt;
         settles = arrived comes old new (holds_arrives old.table.number layout u handles (slots_in old) (slots_in ready) (slots_in new) clear held live comes keeps.sets) none rest (stays_then old ready new stays keeps.stays);
-        grows = elim keeps.grows [ inl same ↦ inl (same ∙ long) | inr all ↦ inr all ];
+        grows = elim keeps.grows [
+          | inl same ↦ inl (same ∙ long)
+          | inr all ↦ inr all
+        ];
       }
 
 module _ {L P S D : Type 0} {d : Ghosts D L P S} {R : Type 0} (known : L) (layout many : ℕ) (u : Use) (handles : List SetHandle) (old new : Store L P S D d) where
