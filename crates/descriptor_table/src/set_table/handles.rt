@@ -26,7 +26,6 @@ impl<T> SetTable<T> {
 
     /// Takes the held sets of `names`, all or none. If a name has no held set, or is in the list twice,
     /// it takes none and returns `false`.
-    #[inline(never)]
     pub fn take_each<N: SetName<T>>(&mut self, names: &[N]) -> bool
         ensures once { IsTrue result ↔ (AreHeldOnce self.old.number (slots_of self.old)
             (N.handles_of names.now) × AllFit N.handle_of N.fit (slots_of self.old) names.now) }
@@ -47,7 +46,7 @@ impl<T> SetTable<T> {
     }
 
     /// Holds the sets of the first `count` names again, the last one first.
-    #[cold]
+    #[inline(never)]
     pub(super) fn put_back<N: SetName<T>>(&mut self, names: &[N], count: usize)
         requires few { count ≤ length names.now }
         requires free { (i : ℕ) → i < count

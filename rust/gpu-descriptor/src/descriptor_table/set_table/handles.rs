@@ -16,7 +16,6 @@ impl<T> SetTable<T> {
 
     /// Takes the held sets of `names`, all or none. If a name has no held set, or is in the list twice,
     /// it takes none and returns `false`.
-    #[inline(never)]
     pub fn take_each<N: SetName<T>>(&mut self, names: &[N]) -> bool
     {
         for index in 0..names.len() {
@@ -31,7 +30,7 @@ impl<T> SetTable<T> {
     }
 
     /// Holds the sets of the first `count` names again, the last one first.
-    #[cold]
+    #[inline(never)]
     pub(super) fn put_back<N: SetName<T>>(&mut self, names: &[N], count: usize)
     {
         for index in 0..count {
