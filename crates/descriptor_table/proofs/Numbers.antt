@@ -41,8 +41,11 @@ found p (q ∷ l) is none = grind (arith, common_steps, found p l)
 -- while a number has users there is room for one more free number
 pub free_room : (free counts : List ℕ) → AreFree free counts → (m : ℕ) → m < length counts → users_at counts m ≢ 0 → length free + 1 ≤ length counts
 free_room free counts h m lt some =
-    omega (arith, length-le_from_distinct_below (m ∷ free) (length counts) (IsDistinct-cons nat_eq m free (apart m free (grind (arith, common_steps, h m))) (distinct free (λ p. grind (arith, common_steps, h p))))
-    (λ q is. grind (arith, common_steps, h q, found q (m ∷ free) is, cases_lt q (length counts), get_or_past)))
+    omega (
+      arith,
+      length-le_from_distinct_below (m ∷ free) (length counts) (IsDistinct-cons nat_eq m free (apart m free (grind (arith, common_steps, h m))) (distinct free (λ p. grind (arith, common_steps, h p))))
+          (λ q is. grind (arith, common_steps, h q, found q (m ∷ free) is, cases_lt q (length counts), get_or_past)),
+    )
 
 -- a number that is put last is in the list once more
 pub times_last : (p q : ℕ) (l : List ℕ) → times p (l ++ q ∷ []) ≡ times p (q ∷ l)
