@@ -4,7 +4,7 @@ use Rattle.std.proofs.Common.{◌≡◌, ℕ, ◌⊎◌, ne_eqb, Bool, true, Lis
 use Rattle.gpu_descriptor_types.specs.declared.device.DescriptorDevice.{Ghosts}
 use Rattle.gpu_descriptor.specs.declared.set.DescriptorSet.{DescriptorSet}
 use Rattle.descriptor_table.specs.Slots.{Slot, count, slot_at, in_list, waits_for}
-use Rattle.descriptor_table.specs.Tables.{is_kept, is_held_use}
+use Rattle.descriptor_table.specs.Tables.{Settings, is_kept, is_held_use}
 use Rattle.descriptor_table.specs.declared.slot.Use.TheVariants.{Vacant}
 use Rattle.descriptor_table.specs.declared.slot.Use.{Use}
 use Rattle.descriptor_table.proofs.Counts.{none_count}
@@ -55,5 +55,5 @@ module _ {T : Type 0} where
 
 module _ {L P S D : Type 0} {d : Ghosts D L P S} where
   -- if each slot became what `Arrives` says, the store settles
-  pub arrived : {removed : ℕ → Bool} {max : ℕ} (comes : ℕ → DescriptorSet S → Type 0) (old new : Store L P S D d) → ((p : ℕ) → Arrives comes (slot_at (slots_in old) p) (slot_at (slots_in new) p)) → new.coming.items ≡ [] → IsAtRest old → StoreStays removed max old new → SettlesTo removed max comes old new
+  pub arrived : {these : Settings} (comes : ℕ → DescriptorSet S → Type 0) (old new : Store L P S D d) → ((p : ℕ) → Arrives comes (slot_at (slots_in old) p) (slot_at (slots_in new) p)) → new.coming.items ≡ [] → IsAtRest old → StoreStays these old new → SettlesTo these comes old new
   arrived comes old new arrives none rest stays = grind (arith, common_steps)

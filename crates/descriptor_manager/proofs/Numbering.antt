@@ -12,7 +12,7 @@ use Rattle.descriptor_table.specs.Tables.{is_usable, layouts_of, removed_of}
 use Rattle.descriptor_table.specs.declared.handle.SetHandle.{SetHandle}
 use Rattle.descriptor_table.specs.declared.set_table.SetTable.{SetTable}
 use Rattle.descriptor_table.proofs.Listed.{past_end}
-use Rattle.descriptor_manager.specs.LayoutRegistries.{KeepsLayouts, layout_at, layout_slots, layouts_by}
+use Rattle.descriptor_manager.specs.LayoutRegistries.{layout_at, layout_slots, layouts_by, registry_of}
 use Rattle.descriptor_manager.specs.declared.layout_registry.LayoutHandle.{LayoutHandle}
 use Rattle.descriptor_manager.specs.Managers.{seen}
 use Rattle.descriptor_manager.specs.Own.{HasSetsOf}
@@ -64,8 +64,8 @@ pub if_other : {A : Type 0} (n layout : ℕ) (a b : A) → n ≢ layout → (if 
 if_other n layout a b ne = ap (λ t. if t then a else b) (ne_eqb n layout ne)
 
 -- names that came after memory was reserved
-pub names_from : {L P S D : Type 0} {d : Ghosts D L P S} (old mid new : LayoutRegistry L P S D d) (handles : List SetHandle) → KeepsLayouts old mid → NameEach handles (layouts_by mid) (layouts_by new) → NameEach handles (layouts_by old) (layouts_by new)
-names_from old mid new handles keeps names = subst (λ s. NameEach handles s (layouts_by new)) (λ i. sets_of (keeps.registry i) 0 false (keeps.slots i)) names
+pub names_from : {L P S D : Type 0} {d : Ghosts D L P S} (old mid new : LayoutRegistry L P S D d) (handles : List SetHandle) → layout_slots mid ≡ layout_slots old → registry_of mid ≡ registry_of old → NameEach handles (layouts_by mid) (layouts_by new) → NameEach handles (layouts_by old) (layouts_by new)
+names_from old mid new handles slots registry names = subst (λ s. NameEach handles s (layouts_by new)) (λ i. sets_of (registry i) 0 false (slots i)) names
 
 -- another handle isn't the one of the list
 pub apart_from : (slot other : SetHandle) → other ≢ slot → (i : ℕ) (d : SetHandle) → i < length (slot ∷ []) → slice_index_or (slot ∷ []) i d ≢ other

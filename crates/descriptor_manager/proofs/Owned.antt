@@ -15,7 +15,7 @@ use Rattle.gpu_descriptor.specs.Caller.Values.{Allocations}
 use Rattle.gpu_descriptor.specs.Model.Books.{books_of}
 use Rattle.descriptor_table.specs.Sets.{Sets, find, sets_of}
 use Rattle.descriptor_table.specs.Slots.{Slot, is_set_of, slot_at}
-use Rattle.descriptor_table.specs.Tables.{Settings, is_usable, layouts_of}
+use Rattle.descriptor_table.specs.Tables.{Settings, is_usable, layouts_of, settings_of}
 use Rattle.descriptor_table.specs.declared.handle.SetHandle.{SetHandle}
 use Rattle.descriptor_table.proofs.Renewing.{vacant_is}
 use Rattle.descriptor_manager.specs.LayoutRegistries.{layout_at, layout_slots, registry_of}
@@ -50,14 +50,14 @@ module _ {L P S D : Type 0} {d : Ghosts D L P S} where
   }
 
   pub sets_settle :
-      {max : ℕ} (comes : ℕ → DescriptorSet S → Type 0) (layouts : List (Slot (SetLayout L))) (number : ℕ) (old new : Store L P S D d) → SettlesTo (removed_in old) max comes old new
+      {max : ℕ} (comes : ℕ → DescriptorSet S → Type 0) (layouts : List (Slot (SetLayout L))) (number : ℕ) (old new : Store L P S D d) → SettlesTo (record (settings_of old.table) { keep = max }) comes old new
       → ((n : ℕ) (x : DescriptorSet S) (known : SetLayout L) → comes n x → (slot_at layouts n).set ≡ Some known → IsOfLayout d.meaning known.layout x.raw) → HasSetsOf layouts number old → HasSetsOf layouts number new
   sets_settle comes layouts number old new settles own was =
       let s = settles.stays.settings in
       sets_as comes layouts layouts number old new settles.sets settles.rest own (λ n. inl (refl, ap (λ (s : Settings). s.removed n) s)) (ap (λ (s : Settings). s.layouts) s ∙ was.numbers) (ap (λ (s : Settings). s.number) s) was
 
   -- and so if none comes
-  pub sets_stay : {max number : ℕ} {layouts : List (Slot (SetLayout L))} {old new : Store L P S D d} → SettlesTo (removed_in old) max NoneComes old new → HasSetsOf layouts number old → HasSetsOf layouts number new
+  pub sets_stay : {max number : ℕ} {layouts : List (Slot (SetLayout L))} {old new : Store L P S D d} → SettlesTo (record (settings_of old.table) { keep = max }) NoneComes old new → HasSetsOf layouts number old → HasSetsOf layouts number new
   sets_stay {number = number} {layouts} {old} {new} settles was = sets_settle NoneComes layouts number old new settles (λ n x known none here. absurd none) was
 
   -- a refusal changes no names

@@ -17,11 +17,6 @@ module _ {L P S D : Type 0} {d : Ghosts D L P S} where
   abbrev pub layout_slots : LayoutRegistry L P S D d → List (Slot (SetLayout L))
   layout_slots r = values_of r.table
 
-  -- the slots and the number are as they were
-  pub record KeepsLayouts (old new : LayoutRegistry L P S D d) : Type 0 where
-    pub slots : layout_slots new ≡ layout_slots old
-    pub registry : registry_of new ≡ registry_of old
-
   -- the layouts by handle: each is held, in no frame
   abbrev pub layouts_by : LayoutRegistry L P S D d → Sets (SetLayout L)
   layouts_by r = sets_of (registry_of r) 0 false (layout_slots r)

@@ -1,5 +1,4 @@
 pub mod Errors
-pub mod Exact
 pub mod LayoutRegistries
 pub mod Own
 pub mod Managers

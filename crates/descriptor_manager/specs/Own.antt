@@ -1,19 +1,13 @@
 -- Each set of a set manager is of the layout that has its number.
 use Rattle.std.specs.Prelude.{◌≡◌, ℕ, false, true, List, length, Some, is_some}
-use Rattle.gpu_descriptor_types.specs.Meaning.{IsOfLayout, Meaning}
+use Rattle.gpu_descriptor_types.specs.Meaning.{IsOfLayout}
 use Rattle.gpu_descriptor_types.specs.declared.device.DescriptorDevice.{Ghosts}
-use Rattle.gpu_descriptor.specs.Caller.SetLayouts.{IsMeant}
 use Rattle.gpu_descriptor.specs.declared.layout.SetLayout.{SetLayout}
 use Rattle.gpu_descriptor.specs.declared.set.DescriptorSet.{DescriptorSet}
 use Rattle.descriptor_table.specs.Slots.{Slot, slot_at}
 use Rattle.descriptor_table.specs.Tables.{is_usable, layouts_of}
 use Rattle.descriptor_manager.specs.Stores.{IsAtRest, removed_in, slots_in}
 use Rattle.descriptor_manager.specs.declared.store.Store.{Store}
-
-module _ {L P S : Type 0} (means : Meaning L P S) where
-  -- each layout is meant
-  abbrev pub AreMeant : List (Slot (SetLayout L)) → Type 0
-  AreMeant layouts = (p : ℕ) (known : SetLayout L) → (slot_at layouts p).set ≡ Some known → IsMeant means known
 
 -- the sets of a store are at rest, and are of these layouts. Their handles have this number
 pub record HasSetsOf {L P S D : Type 0} {d : Ghosts D L P S} (layouts : List (Slot (SetLayout L))) (manager : ℕ) (s : Store L P S D d) : Type 0 where

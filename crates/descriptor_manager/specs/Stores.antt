@@ -20,7 +20,7 @@ use Rattle.gpu_descriptor.specs.declared.layout.SetLayout.{SetLayout}
 use Rattle.gpu_descriptor.specs.declared.set.DescriptorSet.{DescriptorSet}
 use Rattle.descriptor_table.specs.Sets.{sets_in}
 use Rattle.descriptor_table.specs.Slots.{count, filled, is_kept_of, slot_at, waits}
-use Rattle.descriptor_table.specs.Tables.{Becomes, Grows, HasLayout, HasRoom, IsBack, Turns, aged, holds, is_kept, is_usable, place_at, removed_of, removed_with, settings_of, renewed, slots_of, vacated}
+use Rattle.descriptor_table.specs.Tables.{Becomes, Grows, HasLayout, HasRoom, IsBack, Settings, Turns, aged, holds, is_kept, is_usable, place_at, removed_of, removed_as, settings_of, renewed, slots_of, vacated}
 use Rattle.descriptor_table.specs.declared.handle.SetHandle.{SetHandle}
 use Rattle.descriptor_table.specs.Slots.{Slot}
 use Rattle.descriptor_table.specs.declared.slot.Use.{Use}
@@ -100,16 +100,16 @@ module _ {L P S D : Type 0} {d : Ghosts D L P S} where
     pub none_coming : s.coming.items ≡ []
     pub placed : (p : ℕ) → is_placed (slot_at (slots_in s) p) ≡ true
 
-  -- the layouts of these numbers were removed, and at most `max` sets of a layout are kept. Else the settings of the table are as they were, and so are limit, bound, and the pools that aren't the allocator's
-  pub record StoreStays (removed : ℕ → Bool) (max : ℕ) (old new : StoreOver d) : Type 0 where
-    pub settings : settings_of new.table ≡ record (settings_of old.table) { removed = removed; keep = max }
+  -- the table has these settings. Limit, bound, and the pools that aren't the allocator's are as they were
+  pub record StoreStays (these : Settings) (old new : StoreOver d) : Type 0 where
+    pub settings : settings_of new.table ≡ these
     pub limit : new.allocator.limit ≡ old.allocator.limit
     pub bound : new.allocator.bound ≡ old.allocator.bound
     pub besides : pools_besides new ≡ pools_besides old
 
   -- all of these are as they were
   abbrev pub KeepsStore : StoreOver d → StoreOver d → Type 0
-  KeepsStore old new = StoreStays (removed_in old) old.table.keep old new
+  KeepsStore old new = StoreStays (settings_of old.table) old new
 
   -- the slots, the allocator and the ledger are as they were, and the same sets are on their way into the table
   pub record KeepsContents (old new : StoreOver d) : Type 0 where
@@ -118,14 +118,14 @@ module _ {L P S D : Type 0} {d : Ghosts D L P S} where
     pub coming : new.coming.items ≡ old.coming.items
 
   -- each set was in its slot before, under its layout, or passes the test; none is on its way into the table
-  pub record SettlesTo (removed : ℕ → Bool) (max : ℕ) (comes : ℕ → DescriptorSet S → Type 0) (old new : StoreOver d) : Type 0 where
+  pub record SettlesTo (these : Settings) (comes : ℕ → DescriptorSet S → Type 0) (old new : StoreOver d) : Type 0 where
     pub sets : SetsCome comes (slots_in old) (slots_in new)
     pub rest : IsAtRest new
-    pub stays : StoreStays removed max old new
+    pub stays : StoreStays these old new
 
-  -- the same, with layouts and the max of kept sets as they were
+  -- the same, with the settings as they were
   abbrev pub Settles : (ℕ → DescriptorSet S → Type 0) → StoreOver d → StoreOver d → Type 0
-  Settles comes old new = SettlesTo (removed_in old) old.table.keep comes old new
+  Settles comes old new = SettlesTo (settings_of old.table) comes old new
 
   -- sets of the layout, which has this number, may be requested
   pub record CanTake (known : SetLayout L) (number : ℕ) (s : StoreOver d) : Type 0 where
@@ -200,7 +200,7 @@ module _ {L P S D : Type 0} {d : Ghosts D L P S} where
   pub record Removes (known : L) (layout : ℕ) (old new : StoreOver d) : Type 0 where
     pub turns : Turns (is_kept_of layout) (Becomes vacated) (slots_in old) (slots_in new)
     -- so a set that is left under the number isn't kept once it is freed
-    pub removed : removed_in new ≡ removed_with layout (removed_in old)
+    pub removed : removed_in new ≡ removed_as true layout (removed_in old)
     pub mid : Side (Allocations P)
     pub back : GaveBack d.meaning (side_of old) mid
     -- the sets that were there are the returned ones and those that are left

@@ -3,10 +3,10 @@ ghost use Rattle.std.specs.Prelude.{◌≡◌, ◌≢◌, ◌+◌, ◌<◌, ℕ,
 ghost use Rattle.std.specs.Prelude.{IsFalse, IsSome, None, OnOk, Some, true};
 ghost use Rattle.std.specs.Option.{option_copied};
 ghost use Rattle.gpu_descriptor.specs.Caller.SetLayouts.{IsMeant};
+ghost use Rattle.gpu_descriptor.specs.declared.layout.SetLayout.{SetLayout};
 ghost use Rattle.descriptor_table.specs.Handles.{HasPlace, values_of};
 ghost use Rattle.descriptor_table.specs.Slots.{slot_at};
 ghost use Rattle.descriptor_table.specs.Tables.{is_usable, vacated};
-ghost use Rattle.descriptor_manager.specs.Own.{AreMeant};
 
 use descriptor_table::{HandleTable, SetHandle, place_of};
 use gpu_descriptor::{DescriptorDevice, SetLayout};
@@ -39,14 +39,14 @@ impl LayoutHandle {
 pub struct LayoutRegistry<L, P, S, D: DescriptorDevice<L, P, S>> {
     table: HandleTable<SetLayout<L>>,
     device: PhantomData<(P, S, D)>,
-    ghost meant: { AreMeant D.meaning (values_of table) },
+    ghost meant: { (place : ℕ) (known : SetLayout L) → (slot_at (values_of table) place).set ≡ Some known
+        → IsMeant D.meaning known },
 }
 
 impl<L, P, S, D: DescriptorDevice<L, P, S>> LayoutRegistry<L, P, S, D> {
     ghost use Rattle.descriptor_table.specs.Sets.{LoseNames, NameEach};
-    ghost use Rattle.descriptor_manager.specs.LayoutRegistries.{KeepsLayouts, layout_at, layout_slots, layouts_by};
+    ghost use Rattle.descriptor_manager.specs.LayoutRegistries.{layout_at, layout_slots, layouts_by};
     ghost use Rattle.descriptor_manager.specs.LayoutRegistries.{registry_of};
-    ghost use Rattle.gpu_descriptor.specs.declared.layout.SetLayout.{SetLayout};
 
     /// A registry without layouts. `registry` is the number that marks its handles. It allocates no
     /// memory.
@@ -64,7 +64,8 @@ impl<L, P, S, D: DescriptorDevice<L, P, S>> LayoutRegistry<L, P, S, D> {
     #[inline]
     pub fn reserve(&mut self) -> Result<(), AllocError>
         ensures room { OnOk result (HasPlace self.new.table) }
-        ensures keeps { KeepsLayouts self.old self.new }
+        ensures slots { layout_slots self.new ≡ layout_slots self.old }
+        ensures registry { registry_of self.new ≡ registry_of self.old }
     {
         self.table.reserve()
     }

@@ -3,14 +3,14 @@ ghost use Rattle.std.specs.Prelude.{◌≡◌, ◌≤◌, ◌+◌, ◌<◌, ◌�
 ghost use Rattle.std.specs.Option.{option_copied};
 ghost use Rattle.gpu_descriptor.specs.Caller.Flags as flags;
 ghost use Rattle.gpu_descriptor.specs.Caller.SetLayouts.{IsMeant};
-ghost use Rattle.gpu_descriptor.specs.Caller.Sets.{raw_of};
+ghost use Rattle.gpu_descriptor.specs.Caller.Sets.{items_of, raw_of};
 ghost use Rattle.gpu_descriptor.specs.Caller.States.{Agrees, outstanding_of, state_of};
+ghost use Rattle.gpu_descriptor.specs.Model.Agreement.{Item, count_of, outstanding};
 ghost use Rattle.gpu_descriptor.proofs.callers.OneAgreement.{Agrees-prop};
 ghost use Rattle.descriptor_table.specs.Sets.{find, sets_in};
 ghost use Rattle.descriptor_table.specs.Slots.{count, waits};
 ghost use Rattle.descriptor_table.specs.Tables.{AreNoneFree, HasLayout, HasListRoom, HasRoom, OnlySettings, Renewed, holds, is_kept};
 ghost use Rattle.descriptor_table.specs.Tables.{layouts_of, settings_of, slots_of};
-ghost use Rattle.descriptor_manager.specs.Exact.{AreExactly};
 
 mod back;
 mod hold;
@@ -44,8 +44,9 @@ pub(crate) struct Store<L, P, S, D: DescriptorDevice<L, P, S>> {
     device: D,
     ghost agree: { Agrees D.meaning.pool_name allocator (D.ledger device) } by { Agrees-prop
         D.meaning.pool_name allocator (D.ledger device) },
-    ghost exact: { AreExactly D.meaning.set_name (slots_of table) coming.items
-        (state_of D.meaning.pool_name allocator (D.ledger device)) },
+    ghost exact: { (item : Item) → outstanding (state_of D.meaning.pool_name allocator (D.ledger device)) item
+        ≡ count_of item (items_of D.meaning.set_name (sets_in (slots_of table)))
+        + count_of item (items_of D.meaning.set_name coming.items) },
     ghost accounted: { outstanding_of allocator ≡ length (sets_in (slots_of table))
         + length coming.items },
 }

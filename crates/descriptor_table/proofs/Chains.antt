@@ -5,7 +5,7 @@ use Rattle.std.proofs.Common.{◌≡◌, ◌≢◌, ℕ, suc, ◌+◌, ◌-◌, 
 use Rattle.std.proofs.lemmas.List.{get_or-set_same, length-set}
 use Rattle.std.proofs.lemmas.Bool.{false≢true, true≢false}
 use Rattle.descriptor_table.specs.Places.{walk}
-use Rattle.descriptor_table.specs.Slots.{AreLinked, HasLists, IsListed, IsNowhere, Lists, Slot, chain_at, frame_of, in_list, is_in, is_live, slot_at, waits, waits_for}
+use Rattle.descriptor_table.specs.Slots.{AreLinked, IsListed, IsNowhere, Lists, Slot, chain_at, frame_of, in_list, is_in, is_live, slot_at, waits, waits_for}
 use Rattle.descriptor_table.specs.Tables.{is_held_use}
 use Rattle.descriptor_table.specs.declared.slot.Use.{Use}
 use Rattle.descriptor_table.specs.declared.slot.Use.TheVariants.{Held, Taken}
@@ -61,6 +61,10 @@ few_set max chains k c few within le j two = grind (arith, common_steps, length-
 
 module _ {T : Type 0} where
   -- one slot changed
+  -- each slot has its list
+  abbrev pub HasLists : List (Slot T) → ℕ → Type 0
+  HasLists slots layouts = (p : ℕ) → p < length slots → IsListed layouts (slot_at slots p)
+
   pub lists_set : (slots : List (Slot T)) (p : ℕ) (s : Slot T) (layouts : ℕ) → HasLists slots layouts → p < length slots → IsListed layouts s → HasLists (set slots p s) layouts
   lists_set slots p s layouts known within here q lt = grind (arith, common_steps, length-set)
 

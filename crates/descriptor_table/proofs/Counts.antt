@@ -5,7 +5,8 @@ use Rattle.descriptor_table.specs.Giving.{is_of, list_of}
 use Rattle.descriptor_table.specs.Lists.{HasList}
 use Rattle.descriptor_table.specs.Places.{walk}
 use Rattle.descriptor_table.specs.Slots.{AreLinked, Lists, chain_at, count, is_in, is_kept_of, nexts_in, no_slot, slot_at}
-use Rattle.descriptor_table.specs.Tables.{chains_of, removed_of, slots_of}
+use Rattle.descriptor_table.specs.Tables.{removed_of, slots_of}
+use Rattle.descriptor_table.specs.Lists.{chains_in}
 use Rattle.descriptor_table.specs.declared.giving.Group.{Group}
 use Rattle.descriptor_table.specs.declared.set_table.SetTable.{SetTable}
 use Rattle.descriptor_table.proofs.Relisted.{group_there, list_is}
@@ -86,18 +87,18 @@ module _ {T : Type 0} where
 
 -- how many slots a table's lists have
 module _ {T : Type 0} (t : SetTable T) where
-  pub chain_counts : (k : ℕ) → (chain_at (chains_of t) k).count ≡ count (is_in k) (slots_of t)
-  chain_counts = chain_count (slots_of t) (nexts_in t.slots) (chains_of t) t.sound.linked
+  pub chain_counts : (k : ℕ) → (chain_at (chains_in t.lists) k).count ≡ count (is_in k) (slots_of t)
+  chain_counts = chain_count (slots_of t) (nexts_in t.slots) (chains_in t.lists) t.sound.linked
 
   pub vacant_count : t.lists.vacant.count ≡ count (is_in 0) (slots_of t)
   vacant_count = chain_counts 0
 
   -- fewer than the count that marks the list of a removed layout
-  pub chain_short : (k : ℕ) → (chain_at (chains_of t) k).count < 4294967295
+  pub chain_short : (k : ℕ) → (chain_at (chains_in t.lists) k).count < 4294967295
   chain_short k = omega (arith, chain_counts k, count_few (is_in k) (slots_of t), t.sound.size)
 
   -- a list with a count has slots
-  pub some_of : (k : ℕ) (c : Chain) → c ≡ chain_at (chains_of t) k → c.count ≢ 0 → 0 < count (is_in k) (slots_of t)
+  pub some_of : (k : ℕ) (c : Chain) → c ≡ chain_at (chains_in t.lists) k → c.count ≢ 0 → 0 < count (is_in k) (slots_of t)
   some_of k c is some = omega (arith, ap (λ (c : Chain). c.count) is, chain_counts k)
 
   -- of a layout that is there

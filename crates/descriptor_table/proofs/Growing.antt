@@ -5,12 +5,12 @@ use Rattle.std.proofs.Math.Seq.{get_or-append_seam, set-append_seam}
 use Rattle.std.proofs.lemmas.List.{get_or_append_left, length_push}
 use Rattle.std.proofs.lemmas.Bool.{cases_eq}
 use Rattle.descriptor_table.specs.Places.{times, walk}
-use Rattle.descriptor_table.specs.Slots.{AreLinked, HasLists, IsListed, IsQueue, Slot, chain_at, count, filled, frame_of, is_in, no_slot, slot_at, waits}
+use Rattle.descriptor_table.specs.Slots.{AreLinked, IsListed, IsQueue, Slot, chain_at, count, filled, frame_of, is_in, no_slot, slot_at, waits}
 use Rattle.descriptor_table.specs.Tables.{AreAllUsed, At, Changes, HasRoom, Puts, is_usable, slots_of, used_for}
 use Rattle.descriptor_table.specs.declared.set_table.SetTable.{SetTable}
 use Rattle.descriptor_table.specs.declared.slot.Use.TheVariants.{Taken, Vacant}
 use Rattle.descriptor_table.specs.declared.slot.Chain.{Chain}
-use Rattle.descriptor_table.proofs.Chains.{taken_no_list, taken_out}
+use Rattle.descriptor_table.proofs.Chains.{HasLists, taken_no_list, taken_out}
 use Rattle.descriptor_table.proofs.Counts.{count_none}
 use Rattle.descriptor_table.proofs.Listed.{test_within}
 

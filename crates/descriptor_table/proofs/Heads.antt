@@ -5,7 +5,8 @@ use Rattle.std.proofs.lemmas.List.{length-set}
 use Rattle.std.specs.VecDeque.{deque_capacity}
 use Rattle.std.proofs.lemmas.Bool.{cases_lt}
 use Rattle.descriptor_table.specs.Slots.{AreSound, IsQueue, Slot, chain_at, count, frame_of, is_in, is_live, nexts_in, slot_at, slots_in}
-use Rattle.descriptor_table.specs.Tables.{chains_of, layouts_of, slots_of, used_for}
+use Rattle.descriptor_table.specs.Tables.{layouts_of, slots_of, used_for}
+use Rattle.descriptor_table.specs.Lists.{chains_in}
 use Rattle.descriptor_table.specs.declared.slot.Use.TheVariants.{Taken}
 use Rattle.descriptor_table.specs.declared.set_table.SetTable.{SetTable}
 use Rattle.descriptor_table.specs.declared.slot.Chain.{Chain}
@@ -18,16 +19,16 @@ use Rattle.descriptor_table.proofs.Waiting.{out_queue}
 
 module _ {T : Type 0} (s : SetTable T) (k : ℕ) (some : 0 < count (is_in k) (slots_of s)) where
   -- a list that has a slot is there
-  pub there : k < length (chains_of s)
-  there = grind (arith, common_steps, chain_count (slots_of s) (nexts_in s.slots) (chains_of s) s.sound.linked k, cases_lt k (length (chains_of s)))
+  pub there : k < length (chains_in s.lists)
+  there = grind (arith, common_steps, chain_count (slots_of s) (nexts_in s.slots) (chains_in s.lists) s.sound.linked k, cases_lt k (length (chains_in s.lists)))
 
-  module _ (c : Chain) (is : chain_at (chains_of s) k ≡ c) where
+  module _ (c : Chain) (is : chain_at (chains_in s.lists) k ≡ c) where
     pub more : c.count ≢ 0
-    more = grind (arith, common_steps, chain_count (slots_of s) (nexts_in s.slots) (chains_of s) s.sound.linked k)
+    more = grind (arith, common_steps, chain_count (slots_of s) (nexts_in s.slots) (chains_in s.lists) s.sound.linked k)
 
     -- its first slot is there, and in it
     pub first : (c.first < length (slots_of s)) × (is_in k (slot_at (slots_of s) c.first) ≡ true)
-    first = picked (slots_of s) (nexts_in s.slots) (chains_of s) s.sound.linked k c is more
+    first = picked (slots_of s) (nexts_in s.slots) (chains_in s.lists) s.sound.linked k c is more
 
     module _ (l : SlotList T) (new : Slot T) (slots : slots_in l ≡ set (slots_of s) c.first new) where
       -- and stays there
@@ -35,15 +36,15 @@ module _ {T : Type 0} (s : SetTable T) (k : ℕ) (some : 0 < count (is_in k) (sl
       still = let long = ap length slots ∙ length-set (slots_of s) c.first new in let first = first.0 in omega arith
 
       -- it left the list, perhaps for the queue
-      pub left_sound : {after : ℕ} {waiting : List ℕ} {room newest : ℕ} → after ≡ get_or (nexts_in s.slots) c.first 0 → nexts_in l ≡ nexts_in s.slots → is_live (frame_of new.used) true new.used ≡ true → new.layout < layouts_of s → is_some new.set ≡ true → room ≡ deque_capacity s.waiting → IsQueue (slots_in l) waiting newest → AreSound l (set (chains_of s) k (record { first = after; count = c.count - 1 })) (layouts_of s) waiting room s.keep newest
+      pub left_sound : {after : ℕ} {waiting : List ℕ} {room newest : ℕ} → after ≡ get_or (nexts_in s.slots) c.first 0 → nexts_in l ≡ nexts_in s.slots → is_live (frame_of new.used) true new.used ≡ true → new.layout < layouts_of s → is_some new.set ≡ true → room ≡ deque_capacity s.waiting → IsQueue (slots_in l) waiting newest → AreSound l (set (chains_in s.lists) k (record { first = after; count = c.count - 1 })) (layouts_of s) waiting room s.keep newest
       left_sound {after} {waiting} {room} {newest} next nexts live layout full same queue =
-          grind (arith, common_steps, live_no_list new live, pick_sound s.slots l (chains_of s) (layouts_of s) s.waiting.items (deque_capacity s.waiting) s.keep s.newest s.sound c.first new slots k c after waiting newest is more there next refl nexts (live_no_list new live))
+          grind (arith, common_steps, live_no_list new live, pick_sound s.slots l (chains_in s.lists) (layouts_of s) s.waiting.items (deque_capacity s.waiting) s.keep s.newest s.sound c.first new slots k c after waiting newest is more there next refl nexts (live_no_list new live))
 
     -- or a call has it
-    pub taken_sound : (l : SlotList T) {after : ℕ} → slots_in l ≡ with_use c.first Taken (slots_of s) → after ≡ get_or (nexts_in s.slots) c.first 0 → nexts_in l ≡ nexts_in s.slots → AreSound l (set (chains_of s) k (record { first = after; count = c.count - 1 })) (layouts_of s) s.waiting.items (deque_capacity s.waiting) s.keep s.newest
+    pub taken_sound : (l : SlotList T) {after : ℕ} → slots_in l ≡ with_use c.first Taken (slots_of s) → after ≡ get_or (nexts_in s.slots) c.first 0 → nexts_in l ≡ nexts_in s.slots → AreSound l (set (chains_in s.lists) k (record { first = after; count = c.count - 1 })) (layouts_of s) s.waiting.items (deque_capacity s.waiting) s.keep s.newest
     taken_sound l {after} slots next nexts =
         let new = used_for Taken (slot_at (slots_of s) c.first) in
         let out = listed_out k (slot_at (slots_of s) c.first) first.1 in
-        pick_sound s.slots l (chains_of s) (layouts_of s) s.waiting.items (deque_capacity s.waiting) s.keep s.newest s.sound c.first new slots k c after s.waiting.items s.newest is more there next refl nexts (λ j. refl)
-        (listed s.slots l (chains_of s) (layouts_of s) s.waiting.items (deque_capacity s.waiting) s.keep s.newest s.sound c.first new first.0 refl (unheld Taken refl))
+        pick_sound s.slots l (chains_in s.lists) (layouts_of s) s.waiting.items (deque_capacity s.waiting) s.keep s.newest s.sound c.first new slots k c after s.waiting.items s.newest is more there next refl nexts (λ j. refl)
+        (listed s.slots l (chains_in s.lists) (layouts_of s) s.waiting.items (deque_capacity s.waiting) s.keep s.newest s.sound c.first new first.0 refl (unheld Taken refl))
         (out_queue (slots_of s) s.waiting.items s.newest s.sound.queue c.first new first.0 out refl)

@@ -9,7 +9,7 @@ use Rattle.std.specs.List.{AllByRecursion, IsDistinct, list_any}
 use Rattle.descriptor_table.specs.Places.{AreFree, times, users_at}
 use Rattle.descriptor_table.specs.Lists.{Relisted, layouts_in, removed_in}
 use Rattle.descriptor_table.specs.Slots.{AreCounted, Slot, no_slot, count, is_removed, is_set_of, slot_at}
-use Rattle.descriptor_table.specs.Tables.{HasLayout, layouts_of, removed_of, removed_with, removed_without, slots_of}
+use Rattle.descriptor_table.specs.Tables.{HasLayout, layouts_of, removed_of, removed_as, slots_of}
 use Rattle.descriptor_table.specs.Users.{users_in}
 use Rattle.descriptor_table.specs.declared.lists.Lists.{Lists}
 use Rattle.descriptor_table.specs.declared.set_table.SetTable.{SetTable}
@@ -114,7 +114,7 @@ module _ {T : Type 0} (t : SetTable T) (layout : ℕ) (has : HasLayout layout t)
   few_users p within none = omega (arith, users_are, t.sound.size, count_less (is_set_of layout) (slots_of t) p within (ap (λ b. b && ((slot_at (slots_of t) p).layout == layout)) none))
 
   -- it was removed
-  pub removed_counted : AreCounted (slots_of t) (layouts_of t) (removed_with layout (removed_of t)) (set (users_in t.users) layout (users_at (users_in t.users) layout - 1))
+  pub removed_counted : AreCounted (slots_of t) (layouts_of t) (removed_as true layout (removed_of t)) (set (users_in t.users) layout (users_at (users_in t.users) layout - 1))
   removed_counted = record {
     long = length-set (users_in t.users) layout _ ∙ t.counted.long;
     each = λ n lt. grind (arith, common_steps, t.counted.each n, users_are, cases_eq n layout, get_or-set_same, get_or-set_other, t.counted.long);
@@ -125,7 +125,7 @@ module _ {T : Type 0} (t : SetTable T) (layout : ℕ) (within : layout < length 
   pub free_is : (layout < layouts_of t) × (removed_of t layout ≡ true) × (count (is_set_of layout) (slots_of t) ≡ 0)
   free_is = grind (arith, common_steps, t.counted.long, t.counted.each layout)
 
-  pub renewed_counted : AreCounted (slots_of t) (layouts_of t) (removed_without layout (removed_of t)) (set (users_in t.users) layout 1)
+  pub renewed_counted : AreCounted (slots_of t) (layouts_of t) (removed_as false layout (removed_of t)) (set (users_in t.users) layout 1)
   renewed_counted = record {
     long = length-set (users_in t.users) layout _ ∙ t.counted.long;
     each = λ n lt. grind (arith, common_steps, t.counted.each n, free_is, cases_eq n layout, get_or-set_same, get_or-set_other, t.counted.long);

@@ -2,8 +2,9 @@
 use Rattle.std.proofs.lemmas.Grind.{common_steps}
 use Rattle.std.proofs.Common.{◌≡◌, ℕ, ◌+◌, ◌≤◌, ◌&&◌, nat_lt, Bool, List, arith}
 use Rattle.std.proofs.lemmas.Bool.{cases_eq, le-ltb, lt-ltb}
-use Rattle.descriptor_table.specs.Slots.{HasLists, Slot, count, is_kept_of}
+use Rattle.descriptor_table.specs.Slots.{Slot, count, is_kept_of}
 use Rattle.descriptor_table.specs.Tables.{is_kept}
+use Rattle.descriptor_table.proofs.Chains.{HasLists}
 use Rattle.descriptor_table.proofs.Counts.{bit, count_as, count_split, none_count}
 
 module _ {T : Type 0} where

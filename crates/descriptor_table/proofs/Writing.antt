@@ -3,7 +3,8 @@ use Rattle.std.proofs.Common.{◌≡◌, ℕ, ◌+◌, ◌<◌, ◌≤◌, true,
 use Rattle.std.specs.VecDeque.{deque_capacity}
 use Rattle.descriptor_table.specs.Slots.{AreLinked, AreSound, IsNowhere, Slot, chain_at, is_in, nexts_in, slot_at, slots_in}
 use Rattle.descriptor_table.specs.Lists.{HasList}
-use Rattle.descriptor_table.specs.Tables.{Settings, chains_of, layouts_of, settings_of, slots_of}
+use Rattle.descriptor_table.specs.Tables.{Settings, layouts_of, settings_of, slots_of}
+use Rattle.descriptor_table.specs.Lists.{chains_in}
 use Rattle.descriptor_table.specs.declared.set_table.SetTable.{SetTable}
 use Rattle.descriptor_table.specs.declared.giving.Group.{Group}
 use Rattle.descriptor_table.specs.declared.giving.Group.TheVariants.{Going, KeptOf}
@@ -19,17 +20,17 @@ has_still a b same (KeptOf n) has = (subst (λ (s : Settings). n < s.layouts) (s
 -- a slot that is in no list came to one
 module _ {T : Type 0} (t : SetTable T) (k p : ℕ) (s : Slot T) (within : p < length (slots_of t)) (idle : IsNowhere (slot_at (slots_of t) p).used) (goes : is_in k s ≡ true) where
   -- which has no more then than there are slots
-  pub few_more : (chain_at (chains_of t) k).count + 1 < 4294967295
-  few_more = omega (arith, link_more (slots_of t) (nexts_in t.slots) (chains_of t) t.sound.linked k (chain_at (chains_of t) k) refl p s within idle goes, t.sound.size)
+  pub few_more : (chain_at (chains_in t.lists) k).count + 1 < 4294967295
+  few_more = omega (arith, link_more (slots_of t) (nexts_in t.slots) (chains_in t.lists) t.sound.linked k (chain_at (chains_in t.lists) k) refl p s within idle goes, t.sound.size)
 
-  module _ (l : SlotList T) (slots : slots_in l ≡ set (slots_of t) p s) (there : k < length (chains_of t)) (layout : s.layout ≡ (slot_at (slots_of t) p).layout) (few : 2 ≤ k → (chain_at (chains_of t) k).count < t.keep) where
-    came_sound : (first : ℕ) (next : List ℕ) → nexts_in l ≡ next → AreLinked (set (slots_of t) p s) next (set (chains_of t) k (record { first = first; count = (chain_at (chains_of t) k).count + 1 })) → AreSound l (set (chains_of t) k (record { first = first; count = (chain_at (chains_of t) k).count + 1 })) (layouts_of t) t.waiting.items (deque_capacity t.waiting) t.keep t.newest
-    came_sound first next nexts linked = link_sound t.slots l (chains_of t) (layouts_of t) t.waiting.items (deque_capacity t.waiting) t.keep t.newest t.sound p s slots k first (chain_at (chains_of t) k) next refl nexts linked there within idle goes (listed t.slots l (chains_of t) (layouts_of t) t.waiting.items (deque_capacity t.waiting) t.keep t.newest t.sound p s within layout (λ held. absurd (held_nowhere s k goes held))) few
+  module _ (l : SlotList T) (slots : slots_in l ≡ set (slots_of t) p s) (there : k < length (chains_in t.lists)) (layout : s.layout ≡ (slot_at (slots_of t) p).layout) (few : 2 ≤ k → (chain_at (chains_in t.lists) k).count < t.keep) where
+    came_sound : (first : ℕ) (next : List ℕ) → nexts_in l ≡ next → AreLinked (set (slots_of t) p s) next (set (chains_in t.lists) k (record { first = first; count = (chain_at (chains_in t.lists) k).count + 1 })) → AreSound l (set (chains_in t.lists) k (record { first = first; count = (chain_at (chains_in t.lists) k).count + 1 })) (layouts_of t) t.waiting.items (deque_capacity t.waiting) t.keep t.newest
+    came_sound first next nexts linked = link_sound t.slots l (chains_in t.lists) (layouts_of t) t.waiting.items (deque_capacity t.waiting) t.keep t.newest t.sound p s slots k first (chain_at (chains_in t.lists) k) next refl nexts linked there within idle goes (listed t.slots l (chains_in t.lists) (layouts_of t) t.waiting.items (deque_capacity t.waiting) t.keep t.newest t.sound p s within layout (λ held. absurd (held_nowhere s k goes held))) few
 
     -- first
-    pub front_sound : nexts_in l ≡ set (nexts_in t.slots) p (chain_at (chains_of t) k).first → AreSound l (set (chains_of t) k (record { first = p; count = (chain_at (chains_of t) k).count + 1 })) (layouts_of t) t.waiting.items (deque_capacity t.waiting) t.keep t.newest
-    front_sound nexts = came_sound p _ nexts (link_linked (slots_of t) (nexts_in t.slots) (chains_of t) t.sound.linked k (chain_at (chains_of t) k) refl p s within idle goes (same_long t.slots) there)
+    pub front_sound : nexts_in l ≡ set (nexts_in t.slots) p (chain_at (chains_in t.lists) k).first → AreSound l (set (chains_in t.lists) k (record { first = p; count = (chain_at (chains_in t.lists) k).count + 1 })) (layouts_of t) t.waiting.items (deque_capacity t.waiting) t.keep t.newest
+    front_sound nexts = came_sound p _ nexts (link_linked (slots_of t) (nexts_in t.slots) (chains_in t.lists) t.sound.linked k (chain_at (chains_in t.lists) k) refl p s within idle goes (same_long t.slots) there)
 
     -- or after another slot of the list
-    pub after_sound : (near : ℕ) → is_in k (slot_at (slots_of t) near) ≡ true → nexts_in l ≡ set (set (nexts_in t.slots) p (get_or (nexts_in t.slots) near 0)) near p → AreSound l (set (chains_of t) k (record { first = (chain_at (chains_of t) k).first; count = (chain_at (chains_of t) k).count + 1 })) (layouts_of t) t.waiting.items (deque_capacity t.waiting) t.keep t.newest
-    after_sound near has nexts = came_sound _ _ nexts (after_linked (slots_of t) (nexts_in t.slots) (chains_of t) t.sound.linked k (chain_at (chains_of t) k) refl p s within idle goes near has (same_long t.slots) there)
+    pub after_sound : (near : ℕ) → is_in k (slot_at (slots_of t) near) ≡ true → nexts_in l ≡ set (set (nexts_in t.slots) p (get_or (nexts_in t.slots) near 0)) near p → AreSound l (set (chains_in t.lists) k (record { first = (chain_at (chains_in t.lists) k).first; count = (chain_at (chains_in t.lists) k).count + 1 })) (layouts_of t) t.waiting.items (deque_capacity t.waiting) t.keep t.newest
+    after_sound near has nexts = came_sound _ _ nexts (after_linked (slots_of t) (nexts_in t.slots) (chains_in t.lists) t.sound.linked k (chain_at (chains_in t.lists) k) refl p s within idle goes near has (same_long t.slots) there)

@@ -1,5 +1,5 @@
 -- Values under handles.
-use Rattle.std.specs.Prelude.{◌≡◌, ◌+◌, ◌<◌, ◌≤◌, length}
+use Rattle.std.specs.Prelude.{◌+◌, ◌<◌, ◌≤◌, length}
 use Rattle.descriptor_table.specs.Slots.{Slots, slots_in, space_in}
 use Rattle.descriptor_table.specs.declared.handle_table.HandleTable.{HandleTable}
 
@@ -12,8 +12,3 @@ module _ {T : Type 0} where
   pub record HasPlace (t : HandleTable T) : Type 0 where
     pub few : length (values_of t) + 1 < 4294967296
     pub slots : length (values_of t) + 1 ≤ space_in t.slots
-
-  -- the values and the number are as they were
-  pub record KeepsHandles (old new : HandleTable T) : Type 0 where
-    pub slots : values_of new ≡ values_of old
-    pub number : new.number ≡ old.number

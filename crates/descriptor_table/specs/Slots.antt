@@ -150,21 +150,17 @@ module _ {T : Type 0} where
     pub there : s.layout < layouts
     pub full : s.used ≡ Held → is_some s.set ≡ true
 
-  -- each slot has its list
-  abbrev pub HasLists : Slots T → ℕ → Type 0
-  HasLists slots layouts = (p : ℕ) → p < length slots → IsListed layouts (slot_at slots p)
-
   -- slots, lists and queue of a table agree
   pub record AreSound (l : SlotList T) (chains : List Chain) (layouts : ℕ) (waiting : List ℕ) (room keep newest : ℕ) : Type 0 where
     -- fewer than the count that marks the list of a removed layout
     pub size : length (slots_in l) < 4294967295
-    -- a greater number is that of a set that isn't kept
+    -- a greater number marks the set of a layout as aged
     pub numbers : layouts ≤ 2147483648
     -- one place for each slot, so that a set can wait without an allocation
     pub fits : length (slots_in l) ≤ room
     pub linked : AreLinked (slots_in l) (nexts_in l) chains
     pub queue : IsQueue (slots_in l) waiting newest
-    pub known : HasLists (slots_in l) layouts
+    pub known : (p : ℕ) → p < length (slots_in l) → IsListed layouts (slot_at (slots_in l) p)
     -- at most `keep` sets of a layout are kept
     pub few : (k : ℕ) → 2 ≤ k → (chain_at chains k).count ≤ keep
 

@@ -2,11 +2,10 @@
 use Rattle.std.specs.Prelude.{◌≡◌, ◌≢◌, ℕ, ◌+◌, ◌-◌, ◌<◌, ◌≤◌, ◌⊎◌, ◌==◌, ◌&&◌, nat_lt, not, Bool, true, false, List, length, slice_index_or, slice_set, vec_capacity, is_some, if◌then◌else◌, Option, Some, None, MatchOption}
 use Rattle.std.specs.VecDeque.{deque_capacity}
 use Rattle.descriptor_table.specs.Slots.{IsNowhere, Slot, Slots, count, slots_in, space_in, filled, is_in, is_kept_of, is_set_of, slot_at}
-use Rattle.descriptor_table.specs.Lists.{chains_in, layouts_in, removed_in}
+use Rattle.descriptor_table.specs.Lists.{layouts_in, removed_in}
 use Rattle.descriptor_table.specs.Users.{HasNumberRoom}
 use Rattle.descriptor_table.specs.declared.handle.SetHandle.{SetHandle}
 use Rattle.descriptor_table.specs.declared.set_table.SetTable.{SetTable}
-use Rattle.descriptor_table.specs.declared.slot.Chain.{Chain}
 use Rattle.descriptor_table.specs.declared.slot.Use.{Use}
 use Rattle.descriptor_table.specs.declared.slot.Use.TheVariants.{Held, Kept, Going, Taken, Vacant}
 
@@ -19,13 +18,9 @@ is_held_use _ = false
 abbrev pub place_at : List SetHandle → ℕ → ℕ
 place_at handles i = (slice_index_or handles i (record { manager = 0; place = 0; generation = 0 })).place
 
--- the layouts that were removed, once this one was
-abbrev pub removed_with : ℕ → (ℕ → Bool) → ℕ → Bool
-removed_with layout removed n = if n == layout then true else removed n
-
--- and once its number has another layout
-abbrev pub removed_without : ℕ → (ℕ → Bool) → ℕ → Bool
-removed_without layout removed n = if n == layout then false else removed n
+-- the layouts that were removed, once this one was, or once its number has another layout
+abbrev pub removed_as : Bool → ℕ → (ℕ → Bool) → ℕ → Bool
+removed_as is layout removed n = if n == layout then is else removed n
 
 -- what a table has in addition to slots: the set manager's number, how many layouts have a number, which of these were removed, and the max of the kept sets of a layout
 pub record Settings : Type 0 where
@@ -59,10 +54,6 @@ module _ {T : Type 0} where
   abbrev pub removed_of : SetTable T → ℕ → Bool
   removed_of t = removed_in t.lists
 
-  -- all lists of a table
-  abbrev pub chains_of : SetTable T → List Chain
-  chains_of t = chains_in t.lists
-
   -- the settings of a table
   abbrev pub settings_of : SetTable T → Settings
   settings_of t = record { number = t.number; layouts = layouts_of t; removed = removed_of t; keep = t.keep }
@@ -71,11 +62,6 @@ module _ {T : Type 0} where
   pub record OnlySettings (these : Settings) (old new : SetTable T) : Type 0 where
     pub slots : new.slots ≡ old.slots
     pub settings : settings_of new ≡ these
-
-  -- slots and settings are as they were
-  pub record OnlyMemory (old new : SetTable T) : Type 0 where
-    pub slots : slots_of new ≡ slots_of old
-    pub settings : settings_of new ≡ settings_of old
 
   -- the settings and memory are as they were
   pub record Stays (old new : SetTable T) : Type 0 where
@@ -104,7 +90,7 @@ module _ {T : Type 0} where
     pub within : layout < layouts_of old
     pub removed : removed_of old layout ≡ true
     pub none : (p : ℕ) → is_set_of layout (slot_at (slots_of old) p) ≡ false
-    pub only : OnlySettings (record (settings_of old) { removed = removed_without layout (removed_of old) }) old new
+    pub only : OnlySettings (record (settings_of old) { removed = removed_as false layout (removed_of old) }) old new
 
   -- sets are left of each layout that was removed
   abbrev pub AreNoneFree : SetTable T → Type 0

@@ -25,7 +25,7 @@ pub struct HandleTable<T> {
 }
 
 impl<T> HandleTable<T> {
-    ghost use Rattle.descriptor_table.specs.Handles.{HasPlace, KeepsHandles, values_of};
+    ghost use Rattle.descriptor_table.specs.Handles.{HasPlace, values_of};
     ghost use Rattle.descriptor_table.specs.Sets.{find, is_held};
     ghost use Rattle.descriptor_table.specs.Slots.{Slots};
     ghost use Rattle.descriptor_table.specs.Tables.{At, Puts, Renews, is_usable, vacated};
@@ -44,7 +44,8 @@ impl<T> HandleTable<T> {
     /// Reserves memory for one more slot.
     pub fn reserve(&mut self) -> Result<(), AllocError>
         ensures room { OnOk result (HasPlace self.new) }
-        ensures keeps { KeepsHandles self.old self.new }
+        ensures slots { values_of self.new ≡ values_of self.old }
+        ensures number { self.new.number ≡ self.old.number }
     {
         if self.slots.len() as u64 >= u64::from(u32::MAX) {
             return Err(AllocError);

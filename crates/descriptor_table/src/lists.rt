@@ -23,7 +23,7 @@ impl Lists {
     ghost use Rattle.descriptor_table.specs.Giving.{list_of};
     ghost use Rattle.descriptor_table.specs.Lists.{HasList, Relisted, chains_in, layouts_in, removed_in};
     ghost use Rattle.descriptor_table.specs.Slots.{chain_at};
-    ghost use Rattle.descriptor_table.specs.Tables.{removed_with, removed_without};
+    ghost use Rattle.descriptor_table.specs.Tables.{removed_as};
 
     /// Lists without slots, and no layouts. It allocates no memory.
     pub(crate) fn new(alloc: Global) -> Self
@@ -113,7 +113,7 @@ impl Lists {
         requires removed { removed_in self.old layout ≡ true }
         ensures chains { chains_in self.new ≡ chains_in self.old }
         ensures layouts { layouts_in self.new ≡ layouts_in self.old }
-        ensures removed { removed_in self.new ≡ removed_without layout (removed_in self.old) }
+        ensures removed { removed_in self.new ≡ removed_as false layout (removed_in self.old) }
     {
         self.kept[layout as usize] = Chain::EMPTY;
     }
@@ -124,7 +124,7 @@ impl Lists {
         ensures chains { chains_in self.new ≡ slice_set (chains_in self.old) (layout + 2)
             (record { first = 0; count = 0 }) }
         ensures layouts { layouts_in self.new ≡ layouts_in self.old }
-        ensures removed { removed_in self.new ≡ removed_with layout (removed_in self.old) }
+        ensures removed { removed_in self.new ≡ removed_as true layout (removed_in self.old) }
     {
         self.kept[layout as usize] = Chain::REMOVED;
     }

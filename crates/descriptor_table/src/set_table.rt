@@ -59,7 +59,7 @@ pub struct SetTable<T> {
 
 impl<T> SetTable<T> {
     ghost use Rattle.descriptor_table.specs.Sets.{find, is_held, is_last};
-    ghost use Rattle.descriptor_table.specs.Tables.{HasPlaces, HasRoom, OnlyMemory, settings_of};
+    ghost use Rattle.descriptor_table.specs.Tables.{HasPlaces, HasRoom, settings_of};
     ghost use Rattle.descriptor_table.specs.Tables.{is_usable, slots_of};
 
     /// A table without sets and layouts. It allocates no memory.
@@ -120,7 +120,8 @@ impl<T> SetTable<T> {
         ensures room { OnOk result (HasRoom additional self.new) }
         ensures fits { HasRoom additional self.old → IsOk result }
         ensures full { OnErr result (count is_usable (slots_of self.old) < additional) }
-        ensures only { OnlyMemory self.old self.new }
+        ensures slots { slots_of self.new ≡ slots_of self.old }
+        ensures settings { settings_of self.new ≡ settings_of self.old }
     {
         let vacant = self.lists.vacant.count;
         if additional <= vacant {
@@ -133,7 +134,8 @@ impl<T> SetTable<T> {
     fn reserve_slots(&mut self, additional: u32) -> Result<(), AllocError>
         ensures room { OnOk result (HasPlaces additional self.new) }
         ensures fits { HasPlaces additional self.old → IsOk result }
-        ensures only { OnlyMemory self.old self.new }
+        ensures slots { slots_of self.new ≡ slots_of self.old }
+        ensures settings { settings_of self.new ≡ settings_of self.old }
     {
         let places = self.slots.len() as u64 + u64::from(additional);
         if places > MAX_SLOTS {

@@ -12,8 +12,8 @@ impl<L: Drop, P: Drop, S: Drop, D: DescriptorDevice<L, P, S>> Store<L, P, S, D> 
     ghost use Rattle.descriptor_table.specs.Giving.{is_of};
     ghost use Rattle.descriptor_table.specs.Sets.{AllFit, AreHeldOnce, sets_in};
     ghost use Rattle.descriptor_table.specs.Slots.{is_due, is_kept_of, slot_at};
-    ghost use Rattle.descriptor_table.specs.Tables.{Becomes, KeepsUpTo, MayBecome, HasLayout, TurnEach, Turns, is_kept, removed_with};
-    ghost use Rattle.descriptor_table.specs.Tables.{used_for, vacated};
+    ghost use Rattle.descriptor_table.specs.Tables.{Becomes, KeepsUpTo, MayBecome, HasLayout, TurnEach, Turns, is_kept, removed_as};
+    ghost use Rattle.descriptor_table.specs.Tables.{settings_of, used_for, vacated};
     ghost use Rattle.descriptor_table.specs.declared.slot.Use.{Use};
     ghost use Rattle.descriptor_manager.specs.Stores.{AreCleaned, Cleans, FreesSets, IsFreed, KeepsStore};
     ghost use Rattle.descriptor_manager.specs.Stores.{IsAtRest, NoneComes};
@@ -141,7 +141,8 @@ impl<L: Drop, P: Drop, S: Drop, D: DescriptorDevice<L, P, S>> Store<L, P, S, D> 
         ensures few { (layout : ℕ) → kept_of layout self.new ≤ max }
         ensures as_many { (layout : ℕ) → KeepsUpTo max (is_kept_of layout) (slots_in self.old)
             (slots_in self.new) }
-        ensures settles { SettlesTo (removed_in self.old) max NoneComes self.old self.new }
+        ensures settles { SettlesTo (record (settings_of self.old.table) { keep = max }) NoneComes
+            self.old self.new }
     {
         self.table.trim(max);
         self.table.set_max_kept(max);
@@ -156,8 +157,8 @@ impl<L: Drop, P: Drop, S: Drop, D: DescriptorDevice<L, P, S>> Store<L, P, S, D> 
         requires rest { IsAtRest self.old }
         requires layout { HasLayout layout self.old.table }
         ensures removes { Removes known.now.layout layout self.old self.new }
-        ensures settles { SettlesTo (removed_with layout (removed_in self.old)) self.old.table.keep
-            NoneComes self.old self.new }
+        ensures settles { SettlesTo (record (settings_of self.old.table)
+            { removed = removed_as true layout (removed_in self.old) }) NoneComes self.old self.new }
     {
         self.give(Group::KeptOf(layout as usize));
         self.table.remove_layout(layout);

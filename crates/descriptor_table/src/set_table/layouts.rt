@@ -8,7 +8,7 @@ impl<T> SetTable<T> {
     ghost use Rattle.descriptor_table.specs.Slots.{is_kept_of, slot_at};
     ghost use Rattle.descriptor_table.specs.Tables.{AreNoneFree, At, Becomes, Changes, HasLayout};
     ghost use Rattle.descriptor_table.specs.Tables.{HasListRoom, OnlySettings, Renewed, Turns, aged};
-    ghost use Rattle.descriptor_table.specs.Tables.{layouts_of, removed_of, removed_with, settings_of};
+    ghost use Rattle.descriptor_table.specs.Tables.{layouts_of, removed_of, removed_as, settings_of};
     ghost use Rattle.descriptor_table.specs.Tables.{slots_of};
 
     /// Reserves memory for one more layout. It fails if there are 2^31.
@@ -71,7 +71,7 @@ impl<T> SetTable<T> {
         requires layout { HasLayout layout self.old }
         requires none_kept { (p : ℕ) → is_kept_of layout (slot_at (slots_of self.old) p) ≡ false }
         ensures { OnlySettings (record (settings_of self.old)
-            { removed = removed_with layout (removed_of self.old) }) self.old self.new }
+            { removed = removed_as true layout (removed_of self.old) }) self.old self.new }
     {
         self.lists.remove(layout);
         self.users.leave(layout as usize);

@@ -12,8 +12,7 @@ impl<T> SetTable<T> {
     ghost use Rattle.descriptor_table.specs.Lists.{HasList};
     ghost use Rattle.descriptor_table.specs.Slots.{IsNowhere, chain_at, count, frame_of, goes, is_kept_of, is_live, slot_at};
     ghost use Rattle.descriptor_table.specs.Tables.{At, Changes, HasLayout, PicksAny, Renews, Stays};
-    ghost use Rattle.descriptor_table.specs.Tables.{chains_of, removed_of};
-    ghost use Rattle.descriptor_table.specs.Tables.{slots_of, used_for};
+    ghost use Rattle.descriptor_table.specs.Tables.{removed_of, slots_of, used_for};
 
     /// How many sets are in a group.
     #[inline]

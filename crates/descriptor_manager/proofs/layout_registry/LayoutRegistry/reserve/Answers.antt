@@ -3,4 +3,4 @@ use Rattle.descriptor_table.specs.Slots.{slot_at}
 use Rattle.descriptor_manager.proofs.layout_registry.LayoutRegistry.reserve.Goals as goal
 
 pub invariant_of-self : goal.invariant_of-self
-invariant_of-self g c = record { meant = λ p known is. c.args.self.now.meant p known (ap (λ l. (slot_at l p).set) (sym c.reserve.ensures.keeps.slots) ∙ is) }
+invariant_of-self g c = record { meant = λ p known is. c.args.self.now.meant p known (ap (λ l. (slot_at l p).set) (sym c.reserve.ensures.slots) ∙ is) }

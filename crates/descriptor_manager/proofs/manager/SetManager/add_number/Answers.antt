@@ -14,7 +14,7 @@ reserved g c =
     (ap (λ (s : Settings). s.layouts) s ∙ c.args.self.now.sets.numbers) (ap (λ (s : Settings). s.number) s) c.args.self.now.sets
 
 reserved_both : (g : _) (c : After-reserve g) → HasSetsOf (layout_slots c.args.self.now.layouts) c.args.self.now.manager c.reserve_layout.new.self → HasSetsOf (layout_slots c.reserve.new.self) c.args.self.now.manager c.reserve_layout.new.self
-reserved_both g c was = subst (λ l. HasSetsOf l c.args.self.now.manager c.reserve_layout.new.self) (sym c.reserve.ensures.keeps.slots) was
+reserved_both g c was = subst (λ l. HasSetsOf l c.args.self.now.manager c.reserve_layout.new.self) (sym c.reserve.ensures.slots) was
 
 pub invariant_of-self-clause-sets : goal.invariant_of-self-clause-sets
 invariant_of-self-clause-sets g c = reserved g (goal.at.invariant_of-self-clause-sets g c).After-reserve_layout
@@ -38,4 +38,4 @@ pub returns-clause-given : goal.returns-clause-given
 returns-clause-given g c = c.add.ensures.names.given 0 c.add.result.slot (omega arith)
 
 pub returns-clause-others : goal.returns-clause-others
-returns-clause-others g c = λ other ne. (names_from c.args.self.now.layouts c.reserve.new.self c.add.new.self _ c.reserve.ensures.keeps c.add.ensures.names).others other.slot (apart_from c.add.result.slot other.slot (λ e. ne (λ i. record { slot = e i })))
+returns-clause-others g c = λ other ne. (names_from c.args.self.now.layouts c.reserve.new.self c.add.new.self _ c.reserve.ensures.slots c.reserve.ensures.registry c.add.ensures.names).others other.slot (apart_from c.add.result.slot other.slot (λ e. ne (λ i. record { slot = e i })))

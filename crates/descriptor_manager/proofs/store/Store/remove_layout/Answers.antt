@@ -1,11 +1,11 @@
-use Rattle.std.proofs.Common.{◌≡◌, ◌∙◌, ap, sym, subst, arith, rules, List}
+use Rattle.std.proofs.Common.{true, ◌≡◌, ◌∙◌, ap, sym, subst, arith, rules, List}
 use Rattle.gpu_descriptor.specs.Caller.Sets.{items_of}
 use Rattle.gpu_descriptor.specs.Model.Agreement.{count_of}
 use Rattle.gpu_descriptor.specs.declared.set.DescriptorSet.{DescriptorSet}
 use Rattle.descriptor_table.specs.Sets.{sets_in}
 use Rattle.descriptor_table.specs.Slots as table
 use Rattle.descriptor_table.specs.Slots.{is_kept_of}
-use Rattle.descriptor_table.specs.Tables.{Settings, Turns, Becomes, removed_with, slots_of, vacated}
+use Rattle.descriptor_table.specs.Tables.{Settings, Turns, Becomes, removed_as, slots_of, vacated}
 use Rattle.descriptor_manager.specs.Stores.{side_of, slots_in}
 use Rattle.descriptor_manager.proofs.Back.{kept_out}
 use Rattle.descriptor_manager.proofs.Following.{follow_turns, follows_vacated}
@@ -31,7 +31,7 @@ pub returns-clause-removes : goal.returns-clause-removes
 returns-clause-removes g c =
     record {
       turns = turns g (goal.at.returns-clause-removes g c).After-remove_layout;
-      removed = ap (λ (s : Settings). s.removed) c.remove_layout.ensures.settings ∙ ap (λ (s : Settings). removed_with c.args.layout s.removed) c.give.ensures.stays.settings;
+      removed = ap (λ (s : Settings). s.removed) c.remove_layout.ensures.settings ∙ ap (λ (s : Settings). removed_as true c.args.layout s.removed) c.give.ensures.stays.settings;
       mid = side_of c.give.new.self;
       back = c.give.ensures.frees.back;
       trims = c.trim_layout.ensures.trims;

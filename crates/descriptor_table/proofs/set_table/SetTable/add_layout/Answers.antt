@@ -1,6 +1,7 @@
 use Rattle.std.proofs.Common.{◌+◌, refl, sym, subst}
 use Rattle.descriptor_table.specs.Slots.{AreCounted, AreSound}
-use Rattle.descriptor_table.specs.Tables.{chains_of, layouts_of, removed_of, slots_of}
+use Rattle.descriptor_table.specs.Tables.{layouts_of, removed_of, slots_of}
+use Rattle.descriptor_table.specs.Lists.{chains_in}
 use Rattle.descriptor_table.specs.Users.{users_in}
 use Rattle.descriptor_table.proofs.Entries.{in_place}
 use Rattle.descriptor_table.proofs.Numbers.{added_counted}
@@ -11,7 +12,7 @@ pub invariant_of-self-clause-sound : goal.invariant_of-self-clause-sound
 invariant_of-self-clause-sound g c =
     let s = c.args.self.now in
     in_place (λ chains layouts. AreSound s.slots chains layouts s.waiting.items s.waiting.cap s.keep s.newest) _ _ _ _ c.add.ensures.chains c.add.ensures.layouts
-    (layout_sound s.slots s.slots (chains_of s) (layouts_of s) s.waiting.items s.waiting.cap s.keep s.newest s.sound c.requires.room.few)
+    (layout_sound s.slots s.slots (chains_in s.lists) (layouts_of s) s.waiting.items s.waiting.cap s.keep s.newest s.sound c.requires.room.few)
 
 pub invariant_of-self-clause-counted : goal.invariant_of-self-clause-counted
 invariant_of-self-clause-counted g c =

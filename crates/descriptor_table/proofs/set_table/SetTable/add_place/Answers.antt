@@ -2,7 +2,8 @@ use Rattle.std.proofs.lemmas.Grind.{common_steps}
 use Rattle.std.proofs.Common.{refl, arith}
 use Rattle.std.proofs.Math.Seq.{get_or-append_seam, set-append_seam}
 use Rattle.descriptor_table.specs.Slots.{no_slot, slots_in}
-use Rattle.descriptor_table.specs.Tables.{chains_of, layouts_of}
+use Rattle.descriptor_table.specs.Tables.{layouts_of}
+use Rattle.descriptor_table.specs.Lists.{chains_in}
 use Rattle.descriptor_table.specs.declared.slot.Use.TheVariants.{Taken}
 use Rattle.descriptor_table.proofs.Chains.{unheld}
 use Rattle.descriptor_table.proofs.Numbers.{grown_counted}
@@ -14,7 +15,7 @@ invariant_of-self-clause-sound g c =
     let s = c.args.self.now in
     let few = c.requires.room.few in
     let room = c.requires.room.waiting in
-    push_sound s.slots c.push.new.self (chains_of s) (layouts_of s) s.waiting.items s.waiting.cap s.keep s.newest s.sound no_slot refl c.push.ensures.slots c.push.ensures.nexts (record { there = c.requires.layouts; full = unheld Taken refl }) (omega arith) (omega arith)
+    push_sound s.slots c.push.new.self (chains_in s.lists) (layouts_of s) s.waiting.items s.waiting.cap s.keep s.newest s.sound no_slot refl c.push.ensures.slots c.push.ensures.nexts (record { there = c.requires.layouts; full = unheld Taken refl }) (omega arith) (omega arith)
 
 pub invariant_of-self-clause-counted : goal.invariant_of-self-clause-counted
 invariant_of-self-clause-counted g c = grown_counted c.args.self.now (slots_in c.push.new.self) c.push.ensures.slots

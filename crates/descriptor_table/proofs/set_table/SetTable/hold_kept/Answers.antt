@@ -1,7 +1,8 @@
 use Rattle.std.proofs.Common.{◌≡◌, ◌+◌, ◌<◌, true, length, refl, sym, rules, arith}
 use Rattle.std.specs.VecDeque.{deque_capacity}
 use Rattle.descriptor_table.specs.Slots.{AreSound, chain_at, is_kept_of, slot_at, slots_in}
-use Rattle.descriptor_table.specs.Tables.{chains_of, slots_of}
+use Rattle.descriptor_table.specs.Tables.{slots_of}
+use Rattle.descriptor_table.specs.Lists.{chains_in}
 use Rattle.descriptor_table.specs.declared.giving.Group.TheVariants.{KeptOf}
 use Rattle.descriptor_table.specs.declared.slot.Chain.{Chain}
 use Rattle.descriptor_table.proofs.Chains.{listed_out}
@@ -19,10 +20,10 @@ first-place-requires g c = group_has c.args.self.now (KeptOf c.args.layout) c.re
 
 -- the list, by the slot that was read
 abbrev list : (g : _) → After-first-place g → Chain
-list g c = record { first = c.first-place.result; count = (chain_at (chains_of c.args.self.now) (c.args.layout + 2)).count }
+list g c = record { first = c.first-place.result; count = (chain_at (chains_in c.args.self.now.lists) (c.args.layout + 2)).count }
 
-was : (g : _) (c : After-first-place g) → chain_at (chains_of c.args.self.now) (c.args.layout + 2) ≡ list g c
-was g c = λ i. record { first = sym c.first-place.ensures i; count = (chain_at (chains_of c.args.self.now) (c.args.layout + 2)).count }
+was : (g : _) (c : After-first-place g) → chain_at (chains_in c.args.self.now.lists) (c.args.layout + 2) ≡ list g c
+was g c = λ i. record { first = sym c.first-place.ensures i; count = (chain_at (chains_in c.args.self.now.lists) (c.args.layout + 2)).count }
 
 -- its first slot
 at : (g : _) (c : After-first-place g) → (c.first-place.result < length (slots_of c.args.self.now)) × (is_kept_of c.args.layout (slot_at (slots_of c.args.self.now) c.first-place.result) ≡ true)

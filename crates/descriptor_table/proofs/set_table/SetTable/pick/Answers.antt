@@ -1,7 +1,8 @@
 use Rattle.std.proofs.Common.{◌≡◌, ◌-◌, ◌<◌, true, length, refl, set, subst, sym, rules}
 use Rattle.descriptor_table.specs.Giving.{is_of, list_of}
 use Rattle.descriptor_table.specs.Slots.{AreSound, count, slot_at, slots_in}
-use Rattle.descriptor_table.specs.Tables.{chains_of, layouts_of, slots_of}
+use Rattle.descriptor_table.specs.Tables.{layouts_of, slots_of}
+use Rattle.descriptor_table.specs.Lists.{chains_in}
 use Rattle.descriptor_table.specs.declared.slot.Chain.{Chain}
 use Rattle.descriptor_table.proofs.Counts.{chain_short, group_has, some_of}
 use Rattle.descriptor_table.proofs.Entries.{in_place}
@@ -35,7 +36,7 @@ invariant_of-self-clause-sound g c =
     let s = c.args.self.now in
     let k = list_of c.args.group in
     in_place (λ chains layouts. AreSound c.set_use.new.self chains layouts s.waiting.items s.waiting.cap s.keep s.newest) _ _ _ _ c.pop.ensures.chains c.pop.ensures.layouts
-    (subst (λ (w : Chain). AreSound c.set_use.new.self (set (chains_of s) k (record { first = c.at.result.now.next; count = w.count - 1 })) (layouts_of s) s.waiting.items s.waiting.cap s.keep s.newest) c.get-list.ensures
+    (subst (λ (w : Chain). AreSound c.set_use.new.self (set (chains_in s.lists) k (record { first = c.at.result.now.next; count = w.count - 1 })) (layouts_of s) s.waiting.items s.waiting.cap s.keep s.newest) c.get-list.ensures
     (taken_sound s k (some g (goal.at.invariant_of-self-clause-sound g c).After-at) c.get-list.result (sym c.get-list.ensures) c.set_use.new.self c.set_use.ensures.writes.slots c.at.ensures.next c.set_use.ensures.nexts))
 
 pub invariant_of-self-clause-counted : goal.invariant_of-self-clause-counted

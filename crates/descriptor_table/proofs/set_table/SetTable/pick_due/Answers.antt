@@ -1,7 +1,8 @@
 use Rattle.std.proofs.lemmas.Grind.{common_steps}
 use Rattle.std.proofs.Common.{refl, arith, rules}
 use Rattle.descriptor_table.specs.Slots.{slot_at, slots_in}
-use Rattle.descriptor_table.specs.Tables.{chains_of, layouts_of, used_for}
+use Rattle.descriptor_table.specs.Tables.{layouts_of, used_for}
+use Rattle.descriptor_table.specs.Lists.{chains_in}
 use Rattle.descriptor_table.specs.declared.slot.Use.TheVariants.{Taken}
 use Rattle.descriptor_table.proofs.Chains.{unheld}
 use Rattle.descriptor_table.proofs.Numbers.{slot_counted}
@@ -19,7 +20,7 @@ invariant_of-self-2-clause-sound g c =
     let s = c.args.self.now in
     let p = c.in_ok-first.first in
     let rest = c.pop_front.new.self.items in
-    grind (arith, common_steps, listed, leave_sound s.slots c.set_use.new.self (chains_of s) (layouts_of s) s.waiting.items s.waiting.cap s.keep s.newest s.sound p (used_for Taken (slot_at (slots_in s.slots) p)) c.set_use.ensures.writes.slots rest, first_waits (slots_in s.slots) p rest s.newest, unheld)
+    grind (arith, common_steps, listed, leave_sound s.slots c.set_use.new.self (chains_in s.lists) (layouts_of s) s.waiting.items s.waiting.cap s.keep s.newest s.sound p (used_for Taken (slot_at (slots_in s.slots) p)) c.set_use.ensures.writes.slots rest, first_waits (slots_in s.slots) p rest s.newest, unheld)
 
 pub invariant_of-self-2-clause-counted : goal.invariant_of-self-2-clause-counted
 invariant_of-self-2-clause-counted g c =

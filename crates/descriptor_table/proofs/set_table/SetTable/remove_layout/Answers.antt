@@ -1,7 +1,8 @@
-use Rattle.std.proofs.Common.{◌+◌, ◌∙◌, refl, subst, sym, arith}
+use Rattle.std.proofs.Common.{true, ◌+◌, ◌∙◌, refl, subst, sym, arith}
 use Rattle.std.proofs.lemmas.List.{length-map}
 use Rattle.descriptor_table.specs.Slots.{AreCounted, AreSound, is_kept_of, shown}
-use Rattle.descriptor_table.specs.Tables.{chains_of, layouts_of, removed_of, removed_with, slots_of}
+use Rattle.descriptor_table.specs.Tables.{layouts_of, removed_of, removed_as, slots_of}
+use Rattle.descriptor_table.specs.Lists.{chains_in}
 use Rattle.descriptor_table.proofs.Counts.{chain_counts, none_count}
 use Rattle.descriptor_table.specs.Users.{users_in}
 use Rattle.descriptor_table.proofs.Entries.{in_place}
@@ -18,12 +19,12 @@ invariant_of-self-clause-sound g c =
     let n = c.args.layout in
     let none = chain_counts s (n + 2) ∙ none_count (is_kept_of n) (slots_of s) c.requires.none_kept in
     in_place (λ chains layouts. AreSound s.slots chains layouts s.waiting.items s.waiting.cap s.keep s.newest) _ _ _ _ c.remove.ensures.chains c.remove.ensures.layouts
-    (emptied_sound s.slots s.slots (chains_of s) (layouts_of s) s.waiting.items s.waiting.cap s.keep s.newest s.sound (n + 2) _ none refl (omega (arith, length-map s.lists.kept.items shown, c.requires.layout.within)))
+    (emptied_sound s.slots s.slots (chains_in s.lists) (layouts_of s) s.waiting.items s.waiting.cap s.keep s.newest s.sound (n + 2) _ none refl (omega (arith, length-map s.lists.kept.items shown, c.requires.layout.within)))
 
 pub invariant_of-self-clause-counted : goal.invariant_of-self-clause-counted
 invariant_of-self-clause-counted g c =
     let s = c.args.self.now in
-    in_place (λ layouts removed. AreCounted (slots_of s) layouts removed (users_in c.leave.new.self)) _ _ _ _ c.remove.ensures.layouts c.remove.ensures.removed (subst (AreCounted (slots_of s) (layouts_of s) (removed_with c.args.layout (removed_of s))) (sym c.leave.ensures) (removed_counted s c.args.layout c.requires.layout))
+    in_place (λ layouts removed. AreCounted (slots_of s) layouts removed (users_in c.leave.new.self)) _ _ _ _ c.remove.ensures.layouts c.remove.ensures.removed (subst (AreCounted (slots_of s) (layouts_of s) (removed_as true c.args.layout (removed_of s))) (sym c.leave.ensures) (removed_counted s c.args.layout c.requires.layout))
 
 pub returns : goal.returns
 returns g c = let s = c.args.self.now in record { slots = refl; settings = λ i. record { number = s.number; layouts = c.remove.ensures.layouts i; removed = c.remove.ensures.removed i; keep = s.keep } }

@@ -1,6 +1,6 @@
-use Rattle.std.proofs.Common.{refl, subst, sym}
+use Rattle.std.proofs.Common.{false, refl, subst, sym}
 use Rattle.descriptor_table.specs.Slots.{AreCounted, AreSound, is_set_of}
-use Rattle.descriptor_table.specs.Tables.{layouts_of, removed_of, removed_without, slots_of}
+use Rattle.descriptor_table.specs.Tables.{layouts_of, removed_of, removed_as, slots_of}
 use Rattle.descriptor_table.proofs.Counts.{count_none}
 use Rattle.descriptor_table.specs.Users.{users_in}
 use Rattle.descriptor_table.proofs.Entries.{in_place}
@@ -16,7 +16,7 @@ pub invariant_of-self-2-clause-counted : goal.invariant_of-self-2-clause-counted
 invariant_of-self-2-clause-counted g c =
     let s = c.args.self.now in
     let e = c.in_ok-layout.ensures in
-    in_place (λ layouts removed. AreCounted (slots_of s) layouts removed (users_in c.take.new.self)) _ _ _ _ c.renew.ensures.layouts c.renew.ensures.removed (subst (AreCounted (slots_of s) (layouts_of s) (removed_without c.in_ok-layout.layout (removed_of s))) (sym e.users) (renewed_counted s c.in_ok-layout.layout e.within e.free))
+    in_place (λ layouts removed. AreCounted (slots_of s) layouts removed (users_in c.take.new.self)) _ _ _ _ c.renew.ensures.layouts c.renew.ensures.removed (subst (AreCounted (slots_of s) (layouts_of s) (removed_as false c.in_ok-layout.layout (removed_of s))) (sym e.users) (renewed_counted s c.in_ok-layout.layout e.within e.free))
 
 pub returns-clause-renews : goal.returns-clause-renews
 returns-clause-renews g c =

@@ -1,7 +1,8 @@
 use Rattle.std.proofs.lemmas.Grind.{common_steps}
 use Rattle.std.proofs.Common.{◌∙◌, ◌<◌, refl, subst, sym, ap, arith}
 use Rattle.descriptor_table.specs.Slots.{AreCounted, Slot, slot_at, slots_in}
-use Rattle.descriptor_table.specs.Tables.{chains_of, layouts_of, removed_of, slots_of, vacated}
+use Rattle.descriptor_table.specs.Tables.{layouts_of, removed_of, slots_of, vacated}
+use Rattle.descriptor_table.specs.Lists.{chains_in}
 use Rattle.descriptor_table.specs.Users.{users_in}
 use Rattle.descriptor_table.proofs.Chains.{taken_no_list, taken_out}
 use Rattle.descriptor_table.proofs.Numbers.{left_counted, set_user}
@@ -14,7 +15,7 @@ leave-requires-clause-some g c = let s = c.args.self.now in grind (arith, common
 pub invariant_of-self-clause-sound : goal.invariant_of-self-clause-sound
 invariant_of-self-clause-sound g c =
     let s = c.args.self.now in
-    grind (arith, common_steps, out_sound s.slots c.vacate.new.self (chains_of s) (layouts_of s) s.waiting.items s.waiting.cap s.keep s.newest s.sound c.args.place (vacated (slot_at (slots_in s.slots) c.args.place)), taken_no_list, taken_out)
+    grind (arith, common_steps, out_sound s.slots c.vacate.new.self (chains_in s.lists) (layouts_of s) s.waiting.items s.waiting.cap s.keep s.newest s.sound c.args.place (vacated (slot_at (slots_in s.slots) c.args.place)), taken_no_list, taken_out)
 
 pub invariant_of-self-clause-counted : goal.invariant_of-self-clause-counted
 invariant_of-self-clause-counted g c =

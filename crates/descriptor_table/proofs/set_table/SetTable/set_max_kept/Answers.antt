@@ -1,6 +1,7 @@
 use Rattle.std.proofs.Common.{◌≡◌, ◌+◌, ◌-◌, ◌≤◌, subst, arith}
 use Rattle.descriptor_table.specs.Slots.{count, is_in, nexts_in}
-use Rattle.descriptor_table.specs.Tables.{chains_of, slots_of}
+use Rattle.descriptor_table.specs.Tables.{slots_of}
+use Rattle.descriptor_table.specs.Lists.{chains_in}
 use Rattle.descriptor_table.proofs.Counts.{chain_count}
 use Rattle.descriptor_table.proofs.set_table.SetTable.set_max_kept.Goals as goal
 
@@ -17,5 +18,5 @@ invariant_of-self-clause-sound g c =
       known = was.known;
       few = λ k two.
           let same : k - 2 + 2 ≡ k = omega arith in
-          omega (arith, chain_count (slots_of s) (nexts_in s.slots) (chains_of s) s.sound.linked k, subst (λ k. count (is_in k) (slots_of s) ≤ c.args.max) same (c.requires (k - 2)));
+          omega (arith, chain_count (slots_of s) (nexts_in s.slots) (chains_in s.lists) s.sound.linked k, subst (λ k. count (is_in k) (slots_of s) ≤ c.args.max) same (c.requires (k - 2)));
     }

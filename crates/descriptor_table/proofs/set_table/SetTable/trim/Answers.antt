@@ -2,7 +2,8 @@ use Rattle.std.proofs.Common.{◌≤◌, ◌+◌, inl, inr, sym, subst, ap, arit
 use Rattle.std.proofs.lemmas.List.{get_or_past, length-map}
 use Rattle.std.proofs.lemmas.Bool.{cases_eq, cases_lt}
 use Rattle.descriptor_table.specs.Slots.{count, is_kept_of, shown}
-use Rattle.descriptor_table.specs.Tables.{Settings, chains_of, slots_of}
+use Rattle.descriptor_table.specs.Tables.{Settings, slots_of}
+use Rattle.descriptor_table.specs.Lists.{chains_in}
 use Rattle.descriptor_table.specs.declared.slot.Chain.{Chain}
 use Rattle.descriptor_table.proofs.Counts.{chain_counts}
 use Rattle.descriptor_table.proofs.Turning.{stays_more, trim_more, trim_others}
@@ -37,5 +38,5 @@ returns-clause-few g c = λ n. elim (cases_lt n c.loop-layout.layout) [
   | inr le ↦ (
       let s = c.loop-layout.self in
       let end = ap (λ (s : Settings). s.layouts) c.loop-layout.invariant.stays.settings in
-      omega (arith, chain_counts s (n + 2), ap (λ (c : Chain). c.count) (get_or_past (chains_of s) (n + 2) (record { first = 0; count = 0 }) (omega (arith, length-map s.lists.kept.items shown, end, c.loop-layout-test.false, c.len-layout-end.ensures, c.args.self.now.lists.kept.ok.0)))))
+      omega (arith, chain_counts s (n + 2), ap (λ (c : Chain). c.count) (get_or_past (chains_in s.lists) (n + 2) (record { first = 0; count = 0 }) (omega (arith, length-map s.lists.kept.items shown, end, c.loop-layout-test.false, c.len-layout-end.ensures, c.args.self.now.lists.kept.ok.0)))))
 ]

@@ -2,7 +2,8 @@ use Rattle.std.proofs.lemmas.Grind.{common_steps}
 use Rattle.std.proofs.Common.{refl, rules, arith}
 use Rattle.descriptor_table.proofs.Chains.{taken_no_list, taken_out, unheld, waits_no_list}
 use Rattle.descriptor_table.specs.Slots.{slot_at, slots_in}
-use Rattle.descriptor_table.specs.Tables.{chains_of, layouts_of, used_for}
+use Rattle.descriptor_table.specs.Tables.{layouts_of, used_for}
+use Rattle.descriptor_table.specs.Lists.{chains_in}
 use Rattle.descriptor_table.specs.declared.slot.Use.TheVariants.{Waits}
 use Rattle.descriptor_table.proofs.Numbers.{slot_counted}
 use Rattle.descriptor_table.proofs.Sound.{listed, queued}
@@ -17,8 +18,8 @@ invariant_of-self-clause-sound g c =
     let was = slot_at (slots_in s.slots) c.args.place in
     let new = used_for (Waits c.args.frame) was in
     let within = c.requires.taken.within in
-    let here = listed s.slots s.slots (chains_of s) (layouts_of s) s.waiting.items s.waiting.cap s.keep s.newest s.sound c.args.place new within refl (unheld (Waits c.args.frame) refl) in
-    grind (arith, common_steps, queued s.slots c.set_use.new.self (chains_of s) (layouts_of s) s.waiting.items s.waiting.cap s.keep s.newest s.sound c.args.place new c.set_use.ensures.writes.slots c.enqueue.new.waiting.items c.enqueue.new.newest within here, taken_no_list was, waits_no_list new)
+    let here = listed s.slots s.slots (chains_in s.lists) (layouts_of s) s.waiting.items s.waiting.cap s.keep s.newest s.sound c.args.place new within refl (unheld (Waits c.args.frame) refl) in
+    grind (arith, common_steps, queued s.slots c.set_use.new.self (chains_in s.lists) (layouts_of s) s.waiting.items s.waiting.cap s.keep s.newest s.sound c.args.place new c.set_use.ensures.writes.slots c.enqueue.new.waiting.items c.enqueue.new.newest within here, taken_no_list was, waits_no_list new)
 
 pub invariant_of-self-clause-counted : goal.invariant_of-self-clause-counted
 invariant_of-self-clause-counted g c = slot_counted c.args.self.now (slots_in c.set_use.new.self) c.args.place _ c.set_use.ensures.writes.slots c.requires.taken.within refl refl
