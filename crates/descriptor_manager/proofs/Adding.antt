@@ -1,16 +1,6 @@
 -- A layout that comes into a slot and has a handle, and one that leaves: for `LayoutRegistry::add` and `remove`.
-use Rattle.std.proofs.lemmas.Grind.{common_steps}
-use Rattle.std.proofs.Common.{◌≡◌, ◌≢◌, ℕ, ◌<◌, true, false, List, [], ◌∷◌, set, Option, None, Some, IsSome, inl, inr, refl, sym, ap, subst, ◌∙◌, arith, rules, length, length-set}
-use Rattle.std.proofs.lemmas.Option.{same_Some}
-use Rattle.std.proofs.lemmas.Bool.{cases_eq}
-use Rattle.descriptor_table.specs.Sets.{LoseNames, NameEach, is_held, sets_of}
-use Rattle.descriptor_table.specs.Slots.{Slot, slot_at}
-use Rattle.descriptor_table.specs.Tables.{Becomes, Puts, Renews, place_at, renewed, vacated}
-use Rattle.descriptor_table.specs.declared.handle.SetHandle.{SetHandle}
-use Rattle.descriptor_table.specs.declared.slot.Use.{Use}
-use Rattle.descriptor_table.specs.declared.slot.Use.TheVariants.{Held}
-use Rattle.descriptor_table.proofs.Holding.{held_is}
-use Rattle.descriptor_table.proofs.Listed.{other_slots, slot_set}
+use Rattle.descriptor_manager.proofs.Common.{common_steps, ◌≡◌, ◌≢◌, ℕ, ◌<◌, true, false, List, [], ◌∷◌, set, Option, None, Some, IsSome, inl, inr, refl, sym, ap, subst, ◌∙◌, arith, rules, length, length-set, same_Some, cases_eq, LoseNames, NameEach, is_held, sets_of, Slot, slot_at, Becomes}
+use Rattle.descriptor_manager.proofs.Common.{Puts, Renews, place_at, renewed, vacated, SetHandle, Use, Held, held_is, other_slots, slot_set}
 use Rattle.descriptor_manager.proofs.Arriving.{same_clears}
 use Rattle.descriptor_manager.proofs.Handing.{new_one}
 use Rattle.descriptor_manager.proofs.Showing.{lost_names}

@@ -1,15 +1,6 @@
 -- What a slot is like after all kept sets went (`Clears`), and what slots may become when sets come to them (`Arrives`).
-use Rattle.std.proofs.lemmas.Grind.{common_steps}
-use Rattle.std.proofs.Common.{◌≡◌, ℕ, ◌⊎◌, ne_eqb, Bool, true, List, None, refl, rules, ◌+◌, ◌&&◌, ◌||◌, not, [], Some, is_some, inl, sym, subst, arith}
-use Rattle.gpu_descriptor_types.specs.declared.device.DescriptorDevice.{Ghosts}
-use Rattle.gpu_descriptor.specs.declared.set.DescriptorSet.{DescriptorSet}
-use Rattle.descriptor_table.specs.Slots.{Slot, count, slot_at, in_list, waits_for}
-use Rattle.descriptor_table.specs.Tables.{Settings, is_kept, is_held_use}
-use Rattle.descriptor_table.specs.declared.slot.Use.TheVariants.{Vacant}
-use Rattle.descriptor_table.specs.declared.slot.Use.{Use}
-use Rattle.descriptor_table.proofs.Counts.{none_count}
-use Rattle.descriptor_manager.specs.Stores.{AreCleaned, IsAtRest, SettlesTo, StoreStays, is_placed, slots_in}
-use Rattle.descriptor_manager.specs.declared.store.Store.{Store}
+use Rattle.descriptor_manager.proofs.Common.{common_steps, ◌≡◌, ℕ, ◌⊎◌, ne_eqb, Bool, true, List, None, refl, rules, ◌+◌, ◌&&◌, ◌||◌, not, [], Some, is_some, inl, sym, subst, arith, Ghosts, DescriptorSet, Slot, count, slot_at, in_list, waits_for, Settings, is_kept, is_held_use, Vacant, Use}
+use Rattle.descriptor_manager.proofs.Common.{none_count, AreCleaned, IsAtRest, SettlesTo, StoreStays, is_placed, slots_in, Store}
 
 -- a set that was kept may be gone, and any other is there
 pub record Clears {T : Type 0} (o n : Slot T) : Type 0 where

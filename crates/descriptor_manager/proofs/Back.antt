@@ -1,19 +1,7 @@
 -- Sets that go back: those that are freed are kept, or leave their slots; then kept sets that all go, for `Store::cleanup`,
 -- `set_max_kept` and `free_all`; then all sets that leave, for `Store::free_all` and `SetManager::shutdown`.
-use Rattle.std.proofs.lemmas.Grind.{common_steps}
-use Rattle.std.proofs.Common.{◌≡◌, ℕ, ◌+◌, ◌≤◌, ◌&&◌, nat_lt, ne_eqb, Bool, true, false, List, is_some, inl, inr, ap, arith, rules, if◌then◌else◌, refl, sym, ◌∙◌, ◌⊎◌, ◌||◌, not, Option, None}
-use Rattle.std.proofs.lemmas.Bool.{true≢false}
-use Rattle.descriptor_table.specs.Sets.{sets_in}
-use Rattle.descriptor_table.specs.Slots.{Slot, count, goes, is_in, is_kept_of, slot_at, in_list, waits, waits_for}
-use Rattle.descriptor_table.specs.Tables.{IsBack, Becomes, MayBecome, Turns, is_kept, used_for, vacated, aged, holds, is_held_use}
-use Rattle.descriptor_table.specs.declared.slot.Use.TheVariants.{Kept, Going}
-use Rattle.descriptor_table.specs.declared.slot.Use.{Use}
-use Rattle.descriptor_table.proofs.Chains.{lists_apart}
-use Rattle.descriptor_table.proofs.Leaving.{group_out, same_sets}
-use Rattle.descriptor_table.proofs.Renewing.{kept_full}
-use Rattle.descriptor_table.proofs.Turning.{count_same, going_out}
-use Rattle.descriptor_table.proofs.Counts.{count_none}
-use Rattle.descriptor_manager.specs.Stores.{AreCleaned}
+use Rattle.descriptor_manager.proofs.Common.{common_steps, ◌≡◌, ℕ, ◌+◌, ◌≤◌, ◌&&◌, nat_lt, ne_eqb, Bool, true, false, List, is_some, inl, inr, ap, arith, rules, if◌then◌else◌, refl, sym, ◌∙◌, ◌⊎◌, ◌||◌, not, Option, None, true≢false, sets_in, Slot, count, goes, is_in, is_kept_of, slot_at}
+use Rattle.descriptor_manager.proofs.Common.{in_list, waits, waits_for, IsBack, Becomes, MayBecome, Turns, is_kept, used_for, vacated, aged, holds, is_held_use, Kept, Going, Use, lists_apart, group_out, same_sets, kept_full, count_same, going_out, count_none, AreCleaned}
 use Rattle.descriptor_manager.proofs.Following.{ArePlaced, follows_vacated, none_goes}
 use Rattle.descriptor_manager.proofs.Arriving.{Arrives, same_arrives}
 

@@ -1,13 +1,5 @@
 -- Sets that were asked for, and are on their way.
-use Rattle.std.proofs.lemmas.Grind.{common_steps}
-use Rattle.std.proofs.Common.{◌≡◌, ℕ, ◌+◌, ◌-◌, ◌<◌, List, length, sym, ap, subst, ◌∙◌, arith}
-use Rattle.std.proofs.lemmas.Bool.{true≢false}
-use Rattle.gpu_descriptor_types.specs.declared.device.DescriptorDevice.{Ghosts}
-use Rattle.gpu_descriptor.specs.Caller.Sets.{AreOfLayout}
-use Rattle.descriptor_table.specs.Slots.{Slot, count, is_kept_of, slot_at}
-use Rattle.descriptor_table.proofs.Counts.{count_none, none_count}
-use Rattle.descriptor_manager.specs.Stores.{AreCleaned, Asks, AsksAtLast, kept_of, slots_in}
-use Rattle.descriptor_manager.specs.declared.store.Store.{Store}
+use Rattle.descriptor_manager.proofs.Common.{common_steps, ◌≡◌, ℕ, ◌+◌, ◌-◌, ◌<◌, List, length, sym, ap, subst, ◌∙◌, arith, true≢false, Ghosts, AreOfLayout, Slot, count, is_kept_of, slot_at, count_none, none_count, AreCleaned, Asks, AsksAtLast, kept_of, slots_in, Store}
 use Rattle.descriptor_manager.proofs.Arriving.{Clears, clears, none_left, same_clears}
 use Rattle.descriptor_manager.proofs.Growing.{cleared_long}
 use Rattle.descriptor_manager.proofs.Handing.{cleared_of}

@@ -1,13 +1,7 @@
 -- Names that fit the sets in their slots, while other names are made: for `Store::hold_kept`, `hold_coming` and `allocate_with_new`.
-use Rattle.std.proofs.Common.{◌≡◌, ℕ, zero, suc, ◌+◌, ◌-◌, ◌<◌, true, List, [], ◌∷◌, ◌++◌, length, get_or, map, set, take, inl, inr, refl, sym, ap, subst, ◌∙◌, add-one, take-suc-set, arith}
-use Rattle.std.proofs.lemmas.Bool.{cases_lt}
-use Rattle.std.proofs.lemmas.List.{get_or-append_right, get_or_append_left, get_or_default, length-append, take-map}
-use Rattle.descriptor_table.specs.Sets.{AllFit}
-use Rattle.descriptor_table.specs.Slots.{Slot, frame_of, is_live, slot_at}
+use Rattle.descriptor_manager.proofs.Common.{◌≡◌, ℕ, zero, suc, ◌+◌, ◌-◌, ◌<◌, true, List, [], ◌∷◌, ◌++◌, length, get_or, map, set, take, inl, inr, refl, sym, ap, subst, ◌∙◌, add-one, take-suc-set, arith, cases_lt, get_or-append_right, get_or_append_left, get_or_default, length-append, take-map}
+use Rattle.descriptor_manager.proofs.Common.{AllFit, Slot, frame_of, is_live, slot_at, Use, handles_long, handles_written, place_read, HoldEach}
 use Rattle.descriptor_table.specs.declared.handle.SetName.{Ghosts}
-use Rattle.descriptor_table.specs.declared.slot.Use.{Use}
-use Rattle.descriptor_table.proofs.Names.{handles_long, handles_written, place_read}
-use Rattle.descriptor_manager.specs.Stores.{HoldEach}
 use Rattle.descriptor_manager.proofs.Joining.{first, joined}
 
 module _ {N T : Type 0} (n : Ghosts N T) (each : (names : List N) → n.handles_of names ≡ map n.handle_of names) (number layout : ℕ) (u : Use) (live : is_live (frame_of u) true u ≡ true) where

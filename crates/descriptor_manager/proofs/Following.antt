@@ -1,14 +1,6 @@
 -- Each kind of change of a slot by which no set comes is one that `Arrives` allows: its set stays or leaves, and is at rest if it was.
 -- For the calls of `Store` by which sets are freed, wait, or go.
-use Rattle.std.proofs.lemmas.Grind.{common_steps}
-use Rattle.std.proofs.Common.{◌≡◌, ℕ, Bool, true, false, List, length, is_some, inl, inr, subst, arith}
-use Rattle.descriptor_table.specs.Slots.{Slot, goes, in_list, slot_at}
-use Rattle.descriptor_table.specs.Tables.{TurnEach, Turns, place_at, used_for, vacated, IsBack}
-use Rattle.descriptor_table.specs.declared.handle.SetHandle.{SetHandle}
-use Rattle.descriptor_table.specs.declared.slot.Use.{Use}
-use Rattle.descriptor_table.specs.declared.slot.Use.TheVariants.{Waits}
-use Rattle.descriptor_table.proofs.Holding.{named_or}
-use Rattle.descriptor_manager.specs.Stores.{is_placed}
+use Rattle.descriptor_manager.proofs.Common.{common_steps, ◌≡◌, ℕ, Bool, true, false, List, length, is_some, inl, inr, subst, arith, Slot, goes, in_list, slot_at, TurnEach, Turns, place_at, used_for, vacated, IsBack, SetHandle, Use, Waits, named_or, is_placed}
 use Rattle.descriptor_manager.proofs.Arriving.{Arrives, placed_in, same_arrives}
 
 -- a set that is held, waits or is kept doesn't go

@@ -1,29 +1,12 @@
 -- Sets that come into slots, or are taken out of a list; returned sets are counted, and what becomes of all if there are none.
-use Rattle.std.proofs.Common.{◌≡◌, ℕ, zero, suc, ◌+◌, List, [], ◌∷◌, length, set, refl, ap, ◌∙◌, arith, false, Bool, None, true≢false, sym}
+use Rattle.descriptor_manager.proofs.Common.{◌≡◌, ℕ, zero, suc, ◌+◌, List, [], ◌∷◌, length, set, refl, ap, ◌∙◌, arith, false, Bool, None, true≢false, sym, Ghosts, Meaning, side, item_of, items_of, outstanding_of, state_of, Item, count_of, outstanding, DescriptorSet, count_parts, Allocations}
+use Rattle.descriptor_manager.proofs.Common.{joined, sets_in, Slot, slot_at, Puts, Renews, renewed, Turns, Becomes, slots_of, vacated, SetHandle, Use, GivesNext, tally, tally_length, given_weigh, slots_in, Store}
 use Rattle.std.specs.Iterator.{Yields, YieldsThen}
-use Rattle.gpu_descriptor_types.specs.declared.device.DescriptorDevice.{Ghosts}
 use Rattle.gpu_descriptor_types.specs.Ledger.{Ledger}
-use Rattle.gpu_descriptor_types.specs.Meaning.{Meaning}
-use Rattle.gpu_descriptor_types.specs.Side.{side}
-use Rattle.gpu_descriptor.specs.Caller.Sets.{item_of, items_of}
-use Rattle.gpu_descriptor.specs.Caller.States.{outstanding_of, state_of}
-use Rattle.gpu_descriptor.specs.Model.Agreement.{Item, count_of, outstanding}
-use Rattle.gpu_descriptor.specs.declared.set.DescriptorSet.{DescriptorSet}
-use Rattle.gpu_descriptor.proofs.callers.HeldSets.{count_parts}
 use Rattle.gpu_descriptor.specs.Caller.Frees.{Returns}
-use Rattle.gpu_descriptor.specs.Caller.Values.{Allocations}
 use Rattle.gpu_descriptor.proofs.release.Freed.{gives_none}
-use Rattle.descriptor_table.specs.Sets.{joined, sets_in}
-use Rattle.descriptor_table.specs.Slots.{Slot, slot_at}
-use Rattle.descriptor_table.specs.Tables.{Puts, Renews, renewed, Turns, Becomes, slots_of, vacated}
-use Rattle.descriptor_table.specs.declared.handle.SetHandle.{SetHandle}
-use Rattle.descriptor_table.specs.declared.slot.Use.{Use}
-use Rattle.descriptor_table.specs.Giving.{GivesNext}
 use Rattle.descriptor_table.specs.declared.giving.Giving.{Giving}
 use Rattle.descriptor_table.proofs.Coming.{put_weigh}
-use Rattle.descriptor_table.proofs.Leaving.{tally, tally_length, given_weigh}
-use Rattle.descriptor_manager.specs.Stores.{slots_in}
-use Rattle.descriptor_manager.specs.declared.store.Store.{Store}
 
 module _ {S : Type 0} (name : S → ℕ) where
   -- what an item weighs in a tally of sets: how often it is there

@@ -1,17 +1,6 @@
 -- There are more slots only if each has a set, or had its last generation (`Grows`): for the calls of `Store` that give handles.
-use Rattle.std.proofs.lemmas.Grind.{common_steps}
-use Rattle.std.proofs.Common.{◌≡◌, ◌⊎◌, ℕ, true, false, List, length, inl, inr, ap, ◌∙◌, arith, rules}
-use Rattle.gpu_descriptor_types.specs.declared.device.DescriptorDevice.{Ghosts}
-use Rattle.std.proofs.lemmas.Bool.{cases_eq}
-use Rattle.descriptor_table.specs.Slots.{Slot, frame_of, is_live, slot_at}
-use Rattle.descriptor_table.specs.Tables.{AreAllUsed, Grows, Puts, Renews, is_usable, renewed}
-use Rattle.descriptor_table.specs.declared.handle.SetHandle.{SetHandle}
-use Rattle.descriptor_table.specs.declared.slot.Use.{Use}
-use Rattle.descriptor_table.proofs.Chains.{live_no_list}
-use Rattle.descriptor_table.proofs.Holding.{named_or}
-use Rattle.descriptor_table.proofs.Listed.{other_slots, slot_set}
-use Rattle.descriptor_manager.specs.Stores.{HoldEach, IsCleared, slots_in}
-use Rattle.descriptor_manager.specs.declared.store.Store.{Store}
+use Rattle.descriptor_manager.proofs.Common.{common_steps, ◌≡◌, ◌⊎◌, ℕ, true, false, List, length, inl, inr, ap, ◌∙◌, arith, rules, Ghosts, cases_eq, Slot, frame_of, is_live, slot_at, AreAllUsed, Grows, Puts, Renews, is_usable, renewed, SetHandle, Use, live_no_list, named_or, other_slots}
+use Rattle.descriptor_manager.proofs.Common.{slot_set, HoldEach, IsCleared, slots_in, Store}
 use Rattle.descriptor_manager.proofs.Handing.{came_used}
 
 module _ {T : Type 0} where

@@ -1,21 +1,7 @@
 -- A set that comes to a use: for `hold_next`, `hold_last`, `LayoutRegistry::add` and `Joining`. `cleared_of`, `unmet_slots` and `refused_arrives`
 -- say what a refusal leaves. `o` is its slot before and `n` after, `p` its place, `u` the use, and `handle` the next one of the slot.
-use Rattle.std.proofs.lemmas.Grind.{common_steps}
-use Rattle.std.proofs.Common.{◌≡◌, ◌≢◌, ℕ, ◌+◌, ◌<◌, ◌⊎◌, true, List, [], ◌∷◌, length, Some, is_some, sym, ap, subst, ◌∙◌, arith, rules}
-use Rattle.gpu_descriptor_types.specs.declared.device.DescriptorDevice.{Ghosts}
-use Rattle.gpu_descriptor.specs.declared.set.DescriptorSet.{DescriptorSet}
-use Rattle.gpu_descriptor.specs.declared.errors.AllocationError.{AllocationError}
-use Rattle.std.proofs.lemmas.Bool.{cases_eq}
-use Rattle.descriptor_table.specs.Slots.{Slot, count, frame_of, is_kept_of, is_live, slot_at}
-use Rattle.descriptor_table.specs.Tables.{Puts, Renews, is_usable, renewed}
-use Rattle.descriptor_table.specs.declared.handle.SetHandle.{SetHandle}
-use Rattle.descriptor_table.specs.declared.slot.Use.{Use}
-use Rattle.descriptor_table.proofs.Chains.{lists_apart, live_no_list}
-use Rattle.descriptor_table.proofs.Counts.{bit, count_set, same_count}
-use Rattle.descriptor_table.proofs.Listed.{other_slots, slot_set}
-use Rattle.descriptor_table.proofs.Renewing.{kept_is}
-use Rattle.descriptor_manager.specs.Stores.{AreCleaned, ComesInto, HoldEach, IsCleared, IsRefusedAtLast, IsUnmet, slots_in}
-use Rattle.descriptor_manager.specs.declared.store.Store.{Store}
+use Rattle.descriptor_manager.proofs.Common.{common_steps, ◌≡◌, ◌≢◌, ℕ, ◌+◌, ◌<◌, ◌⊎◌, true, List, [], ◌∷◌, length, Some, is_some, sym, ap, subst, ◌∙◌, arith, rules, Ghosts, DescriptorSet, AllocationError, cases_eq, Slot, count, frame_of, is_kept_of, is_live, slot_at, Puts, Renews, is_usable}
+use Rattle.descriptor_manager.proofs.Common.{renewed, SetHandle, Use, lists_apart, live_no_list, bit, count_set, same_count, other_slots, slot_set, kept_is, AreCleaned, ComesInto, HoldEach, IsCleared, IsRefusedAtLast, IsUnmet, slots_in, Store}
 use Rattle.descriptor_manager.proofs.Arriving.{Arrives, arrives_then, clears, clears_arrives, same_arrives}
 use Rattle.descriptor_manager.proofs.Naming.{free_kept, free_none, is_free, kept_as, next_of}
 

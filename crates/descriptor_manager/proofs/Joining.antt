@@ -1,20 +1,9 @@
 -- Sets that come to a use, one after another: for `Store::hold_kept`, `hold_coming`, `allocate` and `allocate_each`.
 -- The slots are `old` before the handles `a` are given, `mid` between, and `new` after the handles `b`; `x` and `y` say so of `a` and `b`.
 -- Handles are written into a list `now`, of which the first are given: those before the place `n`.
-use Rattle.std.proofs.lemmas.Grind.{common_steps}
-use Rattle.std.proofs.Common.{◌≡◌, ◌≢◌, ℕ, ◌+◌, ◌-◌, ◌<◌, ◌⊎◌, ◌||◌, Bool, true, List, [], ◌++◌, length, get_or, Some, is_some, IsSome, inl, inr, refl, sym, ap, subst, ◌∙◌, arith, set, take, true≢false, rules}
-use Rattle.std.proofs.lemmas.Bool.{cases_lt}
-use Rattle.std.proofs.lemmas.List.{get_or-append-add, get_or_append_left, length-append}
-use Rattle.gpu_descriptor_types.specs.declared.device.DescriptorDevice.{Ghosts}
-use Rattle.gpu_descriptor.specs.declared.set.DescriptorSet.{DescriptorSet}
-use Rattle.descriptor_table.specs.Slots.{Slot, frame_of, is_kept_of, is_live, slot_at, waits_for}
-use Rattle.descriptor_table.specs.Sets.{NameEach, find, is_given, sets_of}
-use Rattle.descriptor_table.specs.Tables.{HasLayout, Settings, is_held_use, place_at}
-use Rattle.descriptor_table.specs.declared.handle.SetHandle.{SetHandle}
-use Rattle.descriptor_table.specs.declared.slot.Use.{Use}
-use Rattle.descriptor_table.proofs.Holding.{named_or}
-use Rattle.descriptor_manager.specs.Stores.{ComesInto, HoldEach, KeepsStore, NoneComes, SetsCome, slots_in}
-use Rattle.descriptor_manager.specs.declared.store.Store.{Store}
+use Rattle.descriptor_manager.proofs.Common.{common_steps, ◌≡◌, ◌≢◌, ℕ, ◌+◌, ◌-◌, ◌<◌, ◌⊎◌, ◌||◌, Bool, true, List, [], ◌++◌, length, get_or, Some, is_some, IsSome, inl, inr, refl, sym, ap, subst, ◌∙◌, arith, set, take, true≢false, rules, cases_lt, get_or-append-add, get_or_append_left}
+use Rattle.descriptor_manager.proofs.Common.{length-append, Ghosts, DescriptorSet, Slot, frame_of, is_kept_of, is_live, slot_at, waits_for, NameEach, find, is_given, sets_of, HasLayout, Settings, is_held_use, place_at, SetHandle, Use, named_or, ComesInto, HoldEach, KeepsStore, NoneComes}
+use Rattle.descriptor_manager.proofs.Common.{SetsCome, slots_in, Store}
 use Rattle.descriptor_manager.proofs.Arriving.{Arrives, Clears, arrives_then, clears_arrives, same_arrives, used_placed}
 use Rattle.descriptor_manager.proofs.Handing.{came_free, came_full, came_next, came_used}
 use Rattle.descriptor_manager.proofs.Naming.{free_is, is_free, given_apart, given_clear, next_of, seen_apart, seen_clear, seen_free, seen_next}

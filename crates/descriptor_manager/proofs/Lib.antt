@@ -2,6 +2,7 @@ mod Adding
 mod Arriving
 mod Back
 mod Bringing
+mod Common
 mod Fitting
 mod Following
 mod Given

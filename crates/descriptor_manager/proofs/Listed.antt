@@ -1,13 +1,6 @@
 -- Held sets that are freed by their handles: for `Store::wait_each` and `free_each`.
-use Rattle.std.proofs.lemmas.Grind.{common_steps}
-use Rattle.std.proofs.Common.{arith, ◌≡◌, ℕ, ◌+◌, ◌<◌, Bool, true, false, List, get_or, length, is_some, inl, inr, refl, rules, ap, subst, ◌∙◌}
-use Rattle.descriptor_table.specs.Sets.{AreHeldOnce, sets_in}
-use Rattle.descriptor_table.specs.Slots.{Slot, goes, slot_at}
-use Rattle.descriptor_table.specs.Tables.{Becomes, IsBack, TurnEach, Turns, place_at, used_for, vacated}
-use Rattle.descriptor_table.specs.declared.handle.SetHandle.{SetHandle}
-use Rattle.descriptor_table.specs.declared.slot.Use.TheVariants.{Waits, Going, Taken}
-use Rattle.descriptor_table.proofs.Holding.{held_is, named_or}
-use Rattle.descriptor_table.proofs.Leaving.{same_sets}
+use Rattle.descriptor_manager.proofs.Common.{common_steps, arith, ◌≡◌, ℕ, ◌+◌, ◌<◌, Bool, true, false, List, get_or, length, is_some, inl, inr, refl, rules, ap, subst, ◌∙◌, AreHeldOnce, sets_in, Slot, goes, slot_at, Becomes, IsBack, TurnEach, Turns, place_at, used_for, vacated, SetHandle, Waits}
+use Rattle.descriptor_manager.proofs.Common.{Going, Taken, held_is, named_or, same_sets}
 use Rattle.descriptor_manager.proofs.Back.{given_kept, kept_stays}
 use Rattle.descriptor_manager.proofs.Following.{ArePlaced, none_goes}
 

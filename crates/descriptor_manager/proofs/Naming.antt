@@ -1,12 +1,7 @@
 -- What handles name when sets come to slots, or leave them: for `Joining` and `SetManager::remove_layout`.
 -- `o` is a slot before, `n` the same slot after, and `h` a handle of its place; a handle is *apart* if it isn't the next one of the slot.
-use Rattle.std.proofs.lemmas.Grind.{common_steps}
-use Rattle.std.proofs.Common.{◌≡◌, ◌≢◌, ℕ, ◌+◌, ◌⊎◌, ◌==◌, ◌&&◌, ◌||◌, nat_le, nat_lt, not, Bool, true, if◌then◌else◌, Option, None, is_some, ap, arith, eq-eqb, ne_eqb, rules}
-use Rattle.std.proofs.lemmas.Bool.{and_left, and_right, cases_eq, cases_lt, le-leb, lt-leb}
-use Rattle.descriptor_table.specs.Slots.{Slot, is_kept_of, is_live}
-use Rattle.descriptor_table.specs.Tables.{is_kept}
-use Rattle.descriptor_table.specs.declared.handle.SetHandle.{SetHandle}
-use Rattle.descriptor_table.specs.declared.slot.Use.TheVariants.{Kept}
+use Rattle.descriptor_manager.proofs.Common.{common_steps, ◌≡◌, ◌≢◌, ℕ, ◌+◌, ◌⊎◌, ◌==◌, ◌&&◌, ◌||◌, nat_le, nat_lt, not, Bool, true, if◌then◌else◌, Option, None, is_some, ap, arith, eq-eqb, ne_eqb, rules, and_left, and_right, cases_eq, cases_lt, le-leb, lt-leb, Slot, is_kept_of, is_live}
+use Rattle.descriptor_manager.proofs.Common.{is_kept, SetHandle, Kept}
 use Rattle.descriptor_manager.proofs.Arriving.{Clears}
 
 -- whether the slot has no set, or a kept one

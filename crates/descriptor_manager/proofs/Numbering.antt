@@ -1,26 +1,9 @@
 -- Layouts that come under numbers: for `SetManager::add_layout` and `add_number`. `layouts` are the slots of layouts before, `more` those after.
-use Rattle.std.proofs.lemmas.Grind.{common_steps}
-use Rattle.std.proofs.Common.{true≢false, false, true, ◌≡◌, ◌≢◌, ◌<◌, ◌≤◌, ◌&&◌, ℕ, [], ◌∷◌, List, Option, None, Some, is_some, length, slice_index_or, if◌then◌else◌, refl, sym, ap, ◌∙◌, subst, inl, inr, arith, rules, eq-eqb, ne_eqb, ◌==◌}
-use Rattle.std.proofs.Math.Bool.{and-false}
-use Rattle.std.proofs.lemmas.List.{get_or_past}
-use Rattle.gpu_descriptor_types.specs.declared.device.DescriptorDevice.{Ghosts}
-use Rattle.gpu_descriptor.specs.declared.layout.SetLayout.{SetLayout}
-use Rattle.std.proofs.lemmas.Bool.{cases_eq, cases_lt}
-use Rattle.descriptor_table.specs.Sets.{NameEach, sets_of}
-use Rattle.descriptor_table.specs.Slots.{Slot, is_removed, is_set_of, slot_at}
-use Rattle.descriptor_table.specs.Tables.{is_usable, layouts_of, removed_of}
-use Rattle.descriptor_table.specs.declared.handle.SetHandle.{SetHandle}
+use Rattle.descriptor_manager.proofs.Common.{common_steps, true≢false, false, true, ◌≡◌, ◌≢◌, ◌<◌, ◌≤◌, ◌&&◌, ℕ, [], ◌∷◌, List, Option, None, Some, is_some, length, slice_index_or, if◌then◌else◌, refl, sym, ap, ◌∙◌, subst, inl, inr, arith, rules, eq-eqb, ne_eqb, ◌==◌, and-false, get_or_past}
+use Rattle.descriptor_manager.proofs.Common.{Ghosts, SetLayout, cases_eq, cases_lt, NameEach, sets_of, Slot, is_removed, is_set_of, slot_at, is_usable, layouts_of, removed_of, SetHandle, past_end, layout_at, layout_slots, layouts_by, registry_of, LayoutHandle, seen, HasSetsOf, KeepsContents}
+use Rattle.descriptor_manager.proofs.Common.{NoneComes, pools_besides, removed_in, side_of, slots_in, SetManager, LayoutRegistry, Store}
 use Rattle.descriptor_table.specs.declared.set_table.SetTable.{SetTable}
-use Rattle.descriptor_table.proofs.Listed.{past_end}
-use Rattle.descriptor_manager.specs.LayoutRegistries.{layout_at, layout_slots, layouts_by, registry_of}
-use Rattle.descriptor_manager.specs.declared.layout_registry.LayoutHandle.{LayoutHandle}
-use Rattle.descriptor_manager.specs.Managers.{seen}
-use Rattle.descriptor_manager.specs.Own.{HasSetsOf}
-use Rattle.descriptor_manager.specs.Stores.{KeepsContents, NoneComes, pools_besides, removed_in, side_of, slots_in}
-use Rattle.descriptor_manager.specs.declared.manager.SetManager.{SetManager}
 use Rattle.gpu_descriptor.specs.Caller.Others.{others_of}
-use Rattle.descriptor_manager.specs.declared.layout_registry.LayoutRegistry.{LayoutRegistry}
-use Rattle.descriptor_manager.specs.declared.store.Store.{Store}
 use Rattle.descriptor_manager.proofs.Owned.{IsNumbered, layout_here, sets_as}
 
 -- the number of a layout that is there can't be used again

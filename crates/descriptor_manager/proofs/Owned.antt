@@ -1,32 +1,13 @@
 -- The sets of a set manager stay of their layouts, and what refusals leave: each call of `SetManager` leaves `HasSetsOf`, its invariant.
 -- `slots` are those of sets, `layouts` those of layouts, `known` is a layout, and `n` or `number` the number of one.
 -- The last lemma is of the pools of a layout, by the counts and flags that it is known with.
-use Rattle.std.proofs.lemmas.Grind.{common_steps}
-use Rattle.std.proofs.Common.{◌≡◌, ℕ, ◌⊎◌, Bool, false, true, List, length, Option, Some, None, inl, inr, refl, ap, subst, ◌∙◌, arith, IfSome}
-use Rattle.gpu_descriptor_types.specs.Meaning.{IsOfLayout}
-use Rattle.gpu_descriptor_types.specs.declared.device.DescriptorDevice.{Ghosts}
+use Rattle.descriptor_manager.proofs.Common.{common_steps, ◌≡◌, ℕ, ◌⊎◌, Bool, false, true, List, length, Option, Some, None, inl, inr, refl, ap, subst, ◌∙◌, arith, IfSome, IsOfLayout, Ghosts, AllocationError, SetLayout, DescriptorSet, IsMeant, Allocations, books_of, Sets, find, sets_of, Slot}
+use Rattle.descriptor_manager.proofs.Common.{is_set_of, slot_at, Settings, is_usable, layouts_of, settings_of, SetHandle, vacant_is, layout_at, layout_slots, registry_of, HasSetsOf, ComesOf, IsAtRest, IsRefusedAtLast, KeepsStore, NoneComes, SetsCome, SettlesTo, removed_in, slots_in}
+use Rattle.descriptor_manager.proofs.Common.{LayoutHandle, LayoutRegistry, Store, pools_for, seen, SetManager}
 use Rattle.gpu_descriptor_types.specs.Counts.{kinds}
-use Rattle.gpu_descriptor.specs.declared.errors.AllocationError.{AllocationError}
-use Rattle.gpu_descriptor.specs.declared.layout.SetLayout.{SetLayout}
-use Rattle.gpu_descriptor.specs.declared.set.DescriptorSet.{DescriptorSet}
 use Rattle.gpu_descriptor.specs.Caller.Flags.{is_marked}
-use Rattle.gpu_descriptor.specs.Caller.SetLayouts.{IsMeant}
-use Rattle.gpu_descriptor.specs.Caller.Values.{Allocations}
-use Rattle.gpu_descriptor.specs.Model.Books.{books_of}
-use Rattle.descriptor_table.specs.Sets.{Sets, find, sets_of}
-use Rattle.descriptor_table.specs.Slots.{Slot, is_set_of, slot_at}
-use Rattle.descriptor_table.specs.Tables.{Settings, is_usable, layouts_of, settings_of}
-use Rattle.descriptor_table.specs.declared.handle.SetHandle.{SetHandle}
-use Rattle.descriptor_table.proofs.Renewing.{vacant_is}
-use Rattle.descriptor_manager.specs.LayoutRegistries.{layout_at, layout_slots, registry_of}
-use Rattle.descriptor_manager.specs.Own.{HasSetsOf}
-use Rattle.descriptor_manager.specs.Stores.{ComesOf, IsAtRest, IsRefusedAtLast, KeepsStore, NoneComes, SetsCome, SettlesTo, removed_in, slots_in}
-use Rattle.descriptor_manager.specs.declared.layout_registry.LayoutHandle.{LayoutHandle}
-use Rattle.descriptor_manager.specs.declared.layout_registry.LayoutRegistry.{LayoutRegistry}
 use Rattle.descriptor_manager.specs.Stores as stores
-use Rattle.descriptor_manager.specs.declared.store.Store.{Store}
-use Rattle.descriptor_manager.specs.Managers.{pools_for, seen, side_of}
-use Rattle.descriptor_manager.specs.declared.manager.SetManager.{SetManager}
+use Rattle.descriptor_manager.specs.Managers.{side_of}
 use Rattle.descriptor_manager.proofs.Handing.{unmet_slots}
 use Rattle.descriptor_manager.proofs.Showing.{cleaned_names}
 

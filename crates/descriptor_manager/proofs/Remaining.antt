@@ -1,12 +1,5 @@
 -- What is left after a cleanup, and if no slot has a set: for `SetManager::cleanup` and `shutdown`.
-use Rattle.std.proofs.Common.{◌≡◌, ℕ, suc, ◌<◌, ◌&&◌, true, List, [], ◌∷◌, length, None, is_some, refl, ap, ◌∙◌, arith, rules, Bool}
-use Rattle.std.proofs.Math.Bool.{and-false}
-use Rattle.descriptor_table.specs.Sets.{joined, sets_in}
-use Rattle.descriptor_table.specs.Slots.{Slot, count, slot_at, waits}
-use Rattle.descriptor_table.specs.Tables.{holds}
-use Rattle.descriptor_table.proofs.Counts.{count_none, none_count}
-use Rattle.descriptor_table.specs.declared.slot.Use.{Use}
-use Rattle.descriptor_manager.specs.Stores.{AreCleaned, is_placed}
+use Rattle.descriptor_manager.proofs.Common.{◌≡◌, ℕ, suc, ◌<◌, ◌&&◌, true, List, [], ◌∷◌, length, None, is_some, refl, ap, ◌∙◌, arith, rules, Bool, and-false, joined, sets_in, Slot, count, slot_at, waits, holds, count_none, none_count, Use, AreCleaned, is_placed}
 
 module _ {T : Type 0} where
   -- no slot has a set

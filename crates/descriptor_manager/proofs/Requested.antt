@@ -1,29 +1,10 @@
 -- What a request for sets of a layout leaves of a set manager: for `SetManager::allocate_as` and `allocate_into`.
-use Rattle.std.proofs.Common.{◌≡◌, ◌∙◌, ℕ, ◌<◌, true, List, length, slice_index_or, Result, Ok, Err, Some, inl, inr, sym, ap, subst, true≢false, arith}
-use Rattle.gpu_descriptor_types.specs.Meaning.{IsOfLayout}
-use Rattle.gpu_descriptor_types.specs.declared.device.DescriptorDevice.{Ghosts}
-use Rattle.gpu_descriptor.specs.declared.errors.AllocationError.{AllocationError}
-use Rattle.gpu_descriptor.specs.declared.layout.SetLayout.{SetLayout}
-use Rattle.gpu_descriptor.specs.declared.set.DescriptorSet.{DescriptorSet}
-use Rattle.std.proofs.lemmas.Bool.{cases_lt}
-use Rattle.descriptor_table.specs.Sets.{NameEach, sets_of}
-use Rattle.descriptor_table.specs.Slots.{is_live, slot_at}
-use Rattle.descriptor_table.specs.Tables.{place_at}
-use Rattle.descriptor_table.specs.declared.handle.SetHandle.{SetHandle}
-use Rattle.descriptor_table.specs.declared.slot.Use.{Use}
-use Rattle.std.proofs.lemmas.List.{get_or_default}
-use Rattle.descriptor_manager.specs.LayoutRegistries.{layout_at, layout_slots}
-use Rattle.descriptor_manager.specs.Own.{HasSetsOf}
-use Rattle.descriptor_manager.specs.Stores.{ComesOf, IsRefusedAtLast, Requests, kept_of, slots_in}
-use Rattle.descriptor_manager.specs.declared.layout_registry.LayoutHandle.{LayoutHandle}
-use Rattle.descriptor_manager.specs.declared.manager.SetManager.{SetManager}
-use Rattle.descriptor_manager.specs.declared.store.Store.{Store}
+use Rattle.descriptor_manager.proofs.Common.{◌≡◌, ◌∙◌, ℕ, ◌<◌, true, List, length, slice_index_or, Result, Ok, Err, Some, inl, inr, sym, ap, subst, true≢false, arith, IsOfLayout, Ghosts, AllocationError, SetLayout, DescriptorSet, cases_lt, NameEach, sets_of, is_live, slot_at, place_at}
+use Rattle.descriptor_manager.proofs.Common.{SetHandle, Use, get_or_default, layout_at, layout_slots, HasSetsOf, ComesOf, IsRefusedAtLast, Requests, kept_of, slots_in, LayoutHandle, SetManager, Store, same_Some, common_steps}
 use Rattle.descriptor_manager.proofs.Bringing.{brought}
 use Rattle.descriptor_manager.proofs.Arriving.{Clears, same_clears}
 use Rattle.descriptor_manager.proofs.Handing.{came_layout}
 use Rattle.descriptor_manager.proofs.Joining.{are_named}
-use Rattle.std.proofs.lemmas.Option.{same_Some}
-use Rattle.std.proofs.lemmas.Grind.{common_steps}
 use Rattle.descriptor_manager.proofs.Owned.{found_set, layout_here, sets_settle}
 
 module _ {L P S D : Type 0} {d : Ghosts D L P S} (r : SetManager L P S D d) (layout : LayoutHandle) (known : SetLayout L) (place : ℕ) (at : place ≡ layout.slot.place) (found : layout_at r.layouts layout ≡ Some known) where

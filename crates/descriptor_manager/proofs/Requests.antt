@@ -1,24 +1,10 @@
 -- Requests that kept sets met, or kept and new ones, or none: for `Store::allocate`, `allocate_new`, `allocate_each` and `allocate_with_new`.
-use Rattle.std.proofs.Common.{◌≡◌, ◌∙◌, ℕ, ◌+◌, ◌-◌, ◌<◌, ◌≤◌, true, List, [], length, Ok, Err, inl, refl, ap, arith, inr}
-use Rattle.gpu_descriptor_types.specs.declared.device.DescriptorDevice.{Ghosts}
-use Rattle.gpu_descriptor_types.specs.Side.{Side}
-use Rattle.gpu_descriptor.specs.Caller.Sets.{items_of}
-use Rattle.gpu_descriptor.specs.Caller.States.{state_of}
-use Rattle.gpu_descriptor.specs.Caller.Values.{Allocations}
-use Rattle.gpu_descriptor.specs.Model.Agreement.{Item, count_of, outstanding}
-use Rattle.gpu_descriptor.specs.declared.errors.AllocationError.{AllocationError}
-use Rattle.descriptor_table.specs.Sets.{sets_in}
-use Rattle.descriptor_table.specs.Slots.{frame_of, is_kept_of, is_live, slot_at}
-use Rattle.descriptor_table.specs.Tables.{place_at}
-use Rattle.descriptor_table.specs.declared.handle.SetHandle.{SetHandle}
-use Rattle.descriptor_table.specs.declared.slot.Use.{Use}
-use Rattle.descriptor_manager.specs.Stores.{AsksAtLast, ComesOf, HoldEach, Holds, IsAtRest, IsRefusedAtLast, KeepsStore, NoneComes, Requests, kept_of, side_of, slots_in}
-use Rattle.descriptor_manager.specs.declared.store.Store.{Store}
+use Rattle.descriptor_manager.proofs.Common.{◌≡◌, ◌∙◌, ℕ, ◌+◌, ◌-◌, ◌<◌, ◌≤◌, true, List, [], length, Ok, Err, inl, refl, ap, arith, inr, Ghosts, Side, items_of, state_of, Allocations, Item, count_of, outstanding, AllocationError, sets_in, frame_of, is_kept_of, is_live, slot_at, place_at}
+use Rattle.descriptor_manager.proofs.Common.{SetHandle, Use, AsksAtLast, ComesOf, HoldEach, Holds, IsAtRest, IsRefusedAtLast, KeepsStore, NoneComes, Requests, kept_of, side_of, slots_in, Store, common_steps}
 use Rattle.descriptor_manager.proofs.Arriving.{Clears, arrived, same_clears}
 use Rattle.descriptor_manager.proofs.Bringing.{brought}
 use Rattle.descriptor_manager.proofs.Growing.{cleared_long}
 use Rattle.descriptor_manager.proofs.Handing.{refused_arrives, unmet_slots}
-use Rattle.std.proofs.lemmas.Grind.{common_steps}
 use Rattle.descriptor_manager.proofs.Joining.{held_stays, holds_arrives, kept_then, stays_then, store_same}
 
 -- the sets that were on their way are in the table if none is any more, and the device wasn't called

@@ -1,13 +1,6 @@
 -- What handles name once sets were freed, waited, or were returned to their pools: for `SetManager::frame_done`, `free`, `cleanup` and others.
-use Rattle.std.proofs.lemmas.Grind.{common_steps}
-use Rattle.std.proofs.Common.{◌≡◌, ℕ, ◌+◌, ◌<◌, ◌&&◌, nat_le, Bool, true, false, List, if◌then◌else◌, refl, ap, arith, rules}
-use Rattle.descriptor_table.specs.Sets.{AreHeldOnce, LoseNames, sets_of}
-use Rattle.descriptor_table.specs.Slots.{Slot, in_list, is_due, is_live, slot_at, waits_for}
-use Rattle.descriptor_table.specs.Tables.{Turns, aged, is_kept, vacated, MayBecome, IsBack, TurnEach}
-use Rattle.descriptor_table.specs.declared.handle.SetHandle.{SetHandle}
-use Rattle.descriptor_table.specs.declared.slot.Use.{Use}
-use Rattle.descriptor_table.proofs.Naming.{ShowsSame, names_kept, names_lost, shown}
-use Rattle.descriptor_manager.specs.Stores.{AreCleaned}
+use Rattle.descriptor_manager.proofs.Common.{common_steps, ◌≡◌, ℕ, ◌+◌, ◌<◌, ◌&&◌, nat_le, Bool, true, false, List, if◌then◌else◌, refl, ap, arith, rules, AreHeldOnce, LoseNames, sets_of, Slot, in_list, is_due, is_live, slot_at, waits_for, Turns, aged, is_kept, vacated, MayBecome, IsBack}
+use Rattle.descriptor_manager.proofs.Common.{TurnEach, SetHandle, Use, ShowsSame, names_kept, names_lost, shown, AreCleaned}
 
 -- a kept set has no live handle
 kept_use : (u : Use) (k layout generation frame : ℕ) (full opened : Bool) → in_list (layout + 2) u layout generation full ≡ true → is_live frame opened u ≡ false

@@ -1,15 +1,7 @@
 -- The lists of slots, by the code's chains: for `SetTable::pick`, `link`, `settle` and others. No slot is in two lists (`lists_apart`),
 -- and one that waits is in none. `pick` takes a slot out of a list, `link` puts it into one.
-use Rattle.std.proofs.lemmas.Grind.{common_steps}
-use Rattle.std.proofs.Common.{◌≡◌, ◌≢◌, ℕ, suc, ◌+◌, ◌-◌, ◌<◌, ◌≤◌, ◌&&◌, Bool, true, false, List, ◌∷◌, length, get_or, set, is_some, refl, sym, ap, ◌∙◌, arith, rules}
-use Rattle.std.proofs.lemmas.List.{get_or-set_same, length-set}
-use Rattle.std.proofs.lemmas.Bool.{false≢true, true≢false}
-use Rattle.descriptor_table.specs.Places.{walk}
-use Rattle.descriptor_table.specs.Slots.{AreLinked, IsListed, IsNowhere, Lists, Slot, chain_at, frame_of, in_list, is_in, is_live, slot_at, waits, waits_for}
-use Rattle.descriptor_table.specs.Tables.{is_held_use}
-use Rattle.descriptor_table.specs.declared.slot.Use.{Use}
-use Rattle.descriptor_table.specs.declared.slot.Use.TheVariants.{Held, Taken}
-use Rattle.descriptor_table.specs.declared.slot.Chain.{Chain}
+use Rattle.descriptor_table.proofs.Common.{common_steps, ◌≡◌, ◌≢◌, ℕ, suc, ◌+◌, ◌-◌, ◌<◌, ◌≤◌, ◌&&◌, Bool, true, false, List, ◌∷◌, length, get_or, set, is_some, refl, sym, ap, ◌∙◌, arith, rules, get_or-set_same, length-set, false≢true, true≢false, walk, AreLinked, IsListed, IsNowhere, Lists}
+use Rattle.descriptor_table.proofs.Common.{Slot, chain_at, frame_of, in_list, is_in, is_live, slot_at, waits, waits_for, is_held_use, Use, Held, Taken, Chain}
 use Rattle.descriptor_table.proofs.Counting.{walk_after, walk_other}
 use Rattle.descriptor_table.proofs.Counts.{lists_few}
 use Rattle.descriptor_table.proofs.Listed.{first_passes, lists_other, lists_pop, lists_push, not_listed, one_none, test_within, walk_length}

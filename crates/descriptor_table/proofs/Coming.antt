@@ -1,10 +1,6 @@
 -- A set that came into a slot adds its weight (`tally`) to that of the sets that there are: for `Given` of the set manager.
-use Rattle.std.proofs.Common.{◌≡◌, ◌≢◌, ℕ, zero, suc, ◌+◌, List, [], ◌∷◌, Some, None, refl, sym, ap, ◌∙◌, arith}
+use Rattle.descriptor_table.proofs.Common.{◌≡◌, ◌≢◌, ℕ, zero, suc, ◌+◌, List, [], ◌∷◌, Some, None, refl, sym, ap, ◌∙◌, arith, joined, sets_in, slot_at, Puts, Slot}
 use Rattle.std.proofs.lemmas.Option.{none-some}
-use Rattle.descriptor_table.specs.Sets.{joined, sets_in}
-use Rattle.descriptor_table.specs.Slots.{slot_at}
-use Rattle.descriptor_table.specs.Tables.{Puts}
-use Rattle.descriptor_table.specs.Slots.{Slot}
 use Rattle.descriptor_table.proofs.Leaving.{tally, tally_joined, weight_of}
 
 module _ {T : Type 0} (weight : T → ℕ) where

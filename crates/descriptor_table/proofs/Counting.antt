@@ -1,8 +1,5 @@
 -- Lists of places, and how often each place is in them: for the lists of slots, as they are in `Listed` and `Counts`.
-use Rattle.std.proofs.Common.{◌≡◌, ◌≢◌, ℕ, zero, suc, ◌+◌, ◌<◌, List, ◌∷◌, length, get_or, set, refl, arith, eq-eqb, ne_eqb, rules}
-use Rattle.std.proofs.lemmas.List.{get_or-set_other, get_or-set_same, length-set}
-use Rattle.std.proofs.lemmas.Bool.{cases_eq}
-use Rattle.descriptor_table.specs.Places.{times, walk}
+use Rattle.descriptor_table.proofs.Common.{◌≡◌, ◌≢◌, ℕ, zero, suc, ◌+◌, ◌<◌, List, ◌∷◌, length, get_or, set, refl, arith, eq-eqb, ne_eqb, rules, get_or-set_other, get_or-set_same, length-set, cases_eq, times, walk}
 
 pub times_here : (p : ℕ) (l : List ℕ) → times p (p ∷ l) ≡ times p l + 1
 times_here p l = rw (eq-eqb p p refl) (omega arith)

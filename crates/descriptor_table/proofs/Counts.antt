@@ -1,19 +1,7 @@
 -- How many slots pass a test, when one of them changes, and that a list counts them: for the counts that `SetTable` returns.
-use Rattle.std.proofs.lemmas.Grind.{common_steps}
-use Rattle.std.proofs.Common.{◌≡◌, ◌≢◌, ℕ, zero, suc, ◌+◌, ◌<◌, ◌≤◌, Bool, true, false, inl, inr, if◌then◌else◌, List, [], ◌∷◌, length, set, refl, ap, ◌∙◌, arith, rules, sym}
-use Rattle.descriptor_table.specs.Giving.{is_of, list_of}
-use Rattle.descriptor_table.specs.Lists.{HasList}
-use Rattle.descriptor_table.specs.Places.{walk}
-use Rattle.descriptor_table.specs.Slots.{AreLinked, Lists, chain_at, count, is_in, is_kept_of, nexts_in, no_slot, slot_at}
-use Rattle.descriptor_table.specs.Tables.{removed_of, slots_of}
-use Rattle.descriptor_table.specs.Lists.{chains_in}
-use Rattle.descriptor_table.specs.declared.giving.Group.{Group}
-use Rattle.descriptor_table.specs.declared.set_table.SetTable.{SetTable}
+use Rattle.descriptor_table.proofs.Common.{common_steps, ◌≡◌, ◌≢◌, ℕ, zero, suc, ◌+◌, ◌<◌, ◌≤◌, Bool, true, false, inl, inr, if◌then◌else◌, List, [], ◌∷◌, length, set, refl, ap, ◌∙◌, arith, rules, sym, is_of, list_of, HasList, walk, AreLinked, Lists, chain_at, count, is_in, is_kept_of}
+use Rattle.descriptor_table.proofs.Common.{nexts_in, no_slot, slot_at, removed_of, slots_of, chains_in, Group, SetTable, Slot, Chain, cases_eq, true≢false}
 use Rattle.descriptor_table.proofs.Relisted.{group_there, list_is}
-use Rattle.descriptor_table.specs.Tables.{}
-use Rattle.descriptor_table.specs.Slots.{Slot}
-use Rattle.descriptor_table.specs.declared.slot.Chain.{Chain}
-use Rattle.std.proofs.lemmas.Bool.{cases_eq, true≢false}
 use Rattle.descriptor_table.proofs.Listed.{walk_length, first_passes, one_none, test_within, lists_pop}
 
 -- 1 if the test holds

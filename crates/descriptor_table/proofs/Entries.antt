@@ -1,8 +1,5 @@
 -- What a list of entries says of slots and of their nexts, when an entry changes: for the methods of `SlotList`.
-use Rattle.std.proofs.Common.{◌≡◌, ℕ, ◌<◌, List, length, get_or, set, map, sym, ap, subst, ◌∙◌, arith}
-use Rattle.std.proofs.Math.Seq.{map-set_same}
-use Rattle.std.proofs.lemmas.List.{get_or-map, length-map, map-set}
-use Rattle.descriptor_table.specs.Slots.{Slot, no_slot, slot_at, slot_of}
+use Rattle.descriptor_table.proofs.Common.{◌≡◌, ℕ, ◌<◌, List, length, get_or, set, map, sym, ap, subst, ◌∙◌, arith, map-set_same, get_or-map, length-map, map-set, Slot, no_slot, slot_at, slot_of}
 use Rattle.descriptor_table.specs.declared.slot_list.Entry.{Entry}
 
 -- in the place of two things the same two

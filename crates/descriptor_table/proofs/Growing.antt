@@ -1,15 +1,6 @@
 -- The lists of slots, when a slot without a set comes at the end: for `SetTable::add_place`.
-use Rattle.std.proofs.lemmas.Grind.{common_steps}
-use Rattle.std.proofs.Common.{◌≡◌, ℕ, zero, suc, ◌+◌, Bool, true, if◌then◌else◌, List, [], ◌∷◌, ◌++◌, length, get_or, set, refl, sym, ap, ◌∙◌, arith, rules}
-use Rattle.std.proofs.Math.Seq.{get_or-append_seam, set-append_seam}
-use Rattle.std.proofs.lemmas.List.{get_or_append_left, length_push}
-use Rattle.std.proofs.lemmas.Bool.{cases_eq}
-use Rattle.descriptor_table.specs.Places.{times, walk}
-use Rattle.descriptor_table.specs.Slots.{AreLinked, IsListed, IsQueue, Slot, chain_at, count, filled, frame_of, is_in, no_slot, slot_at, waits}
-use Rattle.descriptor_table.specs.Tables.{AreAllUsed, At, Changes, HasRoom, Puts, is_usable, slots_of, used_for}
-use Rattle.descriptor_table.specs.declared.set_table.SetTable.{SetTable}
-use Rattle.descriptor_table.specs.declared.slot.Use.TheVariants.{Taken, Vacant}
-use Rattle.descriptor_table.specs.declared.slot.Chain.{Chain}
+use Rattle.descriptor_table.proofs.Common.{common_steps, ◌≡◌, ℕ, zero, suc, ◌+◌, Bool, true, if◌then◌else◌, List, [], ◌∷◌, ◌++◌, length, get_or, set, refl, sym, ap, ◌∙◌, arith, rules, get_or-append_seam, set-append_seam, get_or_append_left, length_push, cases_eq, times, walk, AreLinked}
+use Rattle.descriptor_table.proofs.Common.{IsListed, IsQueue, Slot, chain_at, count, filled, frame_of, is_in, no_slot, slot_at, waits, AreAllUsed, At, Changes, HasRoom, Puts, is_usable, slots_of, used_for, SetTable, Taken, Vacant, Chain}
 use Rattle.descriptor_table.proofs.Chains.{HasLists, taken_no_list, taken_out}
 use Rattle.descriptor_table.proofs.Counts.{count_none}
 use Rattle.descriptor_table.proofs.Listed.{test_within}

@@ -1,16 +1,6 @@
 -- The first slot of a list gets a handle: for `SetTable::fill` and `hold_kept`.
-use Rattle.std.proofs.lemmas.Grind.{common_steps}
-use Rattle.std.proofs.Common.{◌≡◌, ◌≢◌, ℕ, ◌-◌, ◌<◌, true, List, length, get_or, set, is_some, refl, ap, ◌∙◌, arith}
-use Rattle.std.proofs.lemmas.List.{length-set}
-use Rattle.std.specs.VecDeque.{deque_capacity}
-use Rattle.std.proofs.lemmas.Bool.{cases_lt}
-use Rattle.descriptor_table.specs.Slots.{AreSound, IsQueue, Slot, chain_at, count, frame_of, is_in, is_live, nexts_in, slot_at, slots_in}
-use Rattle.descriptor_table.specs.Tables.{layouts_of, slots_of, used_for}
-use Rattle.descriptor_table.specs.Lists.{chains_in}
-use Rattle.descriptor_table.specs.declared.slot.Use.TheVariants.{Taken}
-use Rattle.descriptor_table.specs.declared.set_table.SetTable.{SetTable}
-use Rattle.descriptor_table.specs.declared.slot.Chain.{Chain}
-use Rattle.descriptor_table.specs.declared.slot_list.SlotList.{SlotList}
+use Rattle.descriptor_table.proofs.Common.{common_steps, ◌≡◌, ◌≢◌, ℕ, ◌-◌, ◌<◌, true, List, length, get_or, set, is_some, refl, ap, ◌∙◌, arith, length-set, deque_capacity, cases_lt, AreSound, IsQueue, Slot, chain_at, count, frame_of, is_in, is_live, nexts_in, slot_at, slots_in, layouts_of}
+use Rattle.descriptor_table.proofs.Common.{slots_of, used_for, chains_in, Taken, SetTable, Chain, SlotList}
 use Rattle.descriptor_table.proofs.Chains.{listed_out, live_no_list, picked, unheld}
 use Rattle.descriptor_table.proofs.Counts.{chain_count}
 use Rattle.descriptor_table.proofs.Listed.{with_use}

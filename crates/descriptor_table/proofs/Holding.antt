@@ -1,18 +1,9 @@
 -- Held sets whose slots turn by their handles, one after another, unless one of the handles has no held set, or is there twice: for
 -- `SetTable::take_each` and `settle_held` (`TurnedSome`). Those that turned are held again then, the last one first: for `put_back`.
 -- `n` is how many turned.
-use Rattle.std.proofs.lemmas.Grind.{common_steps}
-use Rattle.std.proofs.Common.{◌≡◌, ◌≢◌, ℕ, zero, suc, ◌+◌, ◌<◌, ◌≤◌, ◌⊎◌, ◌==◌, ◌&&◌, Bool, true, false, List, length, get_or, set, take, is_some, inl, inr, Option, refl, sym, ap, subst, ◌∙◌, arith, rules}
+use Rattle.descriptor_table.proofs.Common.{common_steps, ◌≡◌, ◌≢◌, ℕ, zero, suc, ◌+◌, ◌<◌, ◌≤◌, ◌⊎◌, ◌==◌, ◌&&◌, Bool, true, false, List, length, get_or, set, take, is_some, inl, inr, Option, refl, sym, ap, subst, ◌∙◌, arith, rules, ext_get_or, get_or_default, get_or-take, length-set}
+use Rattle.descriptor_table.proofs.Common.{length-take-le, cases_eq, true≢false, AreHeldOnce, is_held, no_slot, slot_at, Becomes, CanBeHeld, HasTaken, IsBack, TurnEach, holds, is_held_use, place_at, used_for, SetHandle, Use, Going, Held, Taken, Slot}
 use Rattle.std.proofs.Math.Bool.{and-false}
-use Rattle.std.proofs.lemmas.List.{ext_get_or, get_or_default, get_or-take, length-set, length-take-le}
-use Rattle.std.proofs.lemmas.Bool.{cases_eq, true≢false}
-use Rattle.descriptor_table.specs.Sets.{AreHeldOnce, is_held}
-use Rattle.descriptor_table.specs.Slots.{no_slot, slot_at}
-use Rattle.descriptor_table.specs.Tables.{Becomes, CanBeHeld, HasTaken, IsBack, TurnEach, holds, is_held_use, place_at, used_for}
-use Rattle.descriptor_table.specs.declared.handle.SetHandle.{SetHandle}
-use Rattle.descriptor_table.specs.declared.slot.Use.{Use}
-use Rattle.descriptor_table.specs.declared.slot.Use.TheVariants.{Going, Held, Taken}
-use Rattle.descriptor_table.specs.Slots.{Slot}
 use Rattle.descriptor_table.proofs.Chains.{and_true}
 use Rattle.descriptor_table.proofs.Listed.{other_slots, slot_set, test_within, with_use}
 

@@ -1,19 +1,12 @@
 -- Sets that leave their slots, and how many are left: for the iterator `Giving`, and what is left once it gave all that it has.
 -- Sets are counted by a weight that each has: with weight 1 it is their number, and for `Given` and `Returned` of the set manager how often
 -- an item is among them. `xs` are the sets that were given, `s` and `t` the iterator, or its table, before and after.
-use Rattle.std.proofs.lemmas.Grind.{common_steps}
-use Rattle.std.proofs.Common.{◌≡◌, ℕ, zero, suc, ◌+◌, ◌<◌, ne_eqb, Bool, false, List, [], ◌∷◌, length, set, zero-add, Option, Some, None, refl, sym, ap, subst, ◌∙◌, arith, rules}
+use Rattle.descriptor_table.proofs.Common.{common_steps, ◌≡◌, ℕ, zero, suc, ◌+◌, ◌<◌, ne_eqb, Bool, false, List, [], ◌∷◌, length, set, zero-add, Option, Some, None, refl, sym, ap, subst, ◌∙◌, arith, rules, GivesNext, is_of, joined, sets_in, slot_at, GivesAny, Stays, Turns, Becomes, slots_of}
+use Rattle.descriptor_table.proofs.Common.{vacated, Group, SetTable, Slot}
 use Rattle.std.specs.Borrow.{MutBor}
 use Rattle.std.specs.Iterator.{MakesProgress, Yields, YieldsThen, at_most}
 use Rattle.std.specs.declared.iter.Iterator.{can_next-default}
-use Rattle.descriptor_table.specs.Giving.{GivesNext, is_of}
-use Rattle.descriptor_table.specs.Sets.{joined, sets_in}
-use Rattle.descriptor_table.specs.Slots.{slot_at}
-use Rattle.descriptor_table.specs.Tables.{GivesAny, Stays, Turns, Becomes, slots_of, vacated}
 use Rattle.descriptor_table.specs.declared.giving.Giving.{Giving}
-use Rattle.descriptor_table.specs.declared.giving.Group.{Group}
-use Rattle.descriptor_table.specs.declared.set_table.SetTable.{SetTable}
-use Rattle.descriptor_table.specs.Slots.{Slot}
 use Rattle.descriptor_table.proofs.Turning.{Turning, stays_more, stays_same, turn_end, turn_start, turn_step}
 
 -- what sets weigh

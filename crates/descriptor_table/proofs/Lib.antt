@@ -1,5 +1,6 @@
 pub mod Chains
 pub mod Coming
+pub mod Common
 pub mod Counting
 pub mod Counts
 pub mod Entries

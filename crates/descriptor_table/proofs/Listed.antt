@@ -1,12 +1,6 @@
 -- Lists of the places of slots that pass a test, when a slot changes: for the chains of slots (`Chains`) and the queue (`Waiting`).
-use Rattle.std.proofs.lemmas.Grind.{common_steps}
-use Rattle.std.proofs.Common.{◌≡◌, ◌≢◌, ℕ, zero, suc, ◌+◌, ◌<◌, ◌≤◌, Bool, true, false, if◌then◌else◌, List, [], ◌∷◌, length, get_or, set, refl, sym, ap, ◌∙◌, arith}
-use Rattle.std.proofs.lemmas.List.{get_or-set_other, get_or-set_same, get_or_past}
-use Rattle.std.proofs.lemmas.Bool.{cases_eq}
-use Rattle.descriptor_table.specs.Places.{times, walk}
-use Rattle.descriptor_table.specs.Slots.{Lists, Slot, no_slot, slot_at}
-use Rattle.descriptor_table.specs.Tables.{used_for}
-use Rattle.descriptor_table.specs.declared.slot.Use.{Use}
+use Rattle.descriptor_table.proofs.Common.{common_steps, ◌≡◌, ◌≢◌, ℕ, zero, suc, ◌+◌, ◌<◌, ◌≤◌, Bool, true, false, if◌then◌else◌, List, [], ◌∷◌, length, get_or, set, refl, sym, ap, ◌∙◌, arith, get_or-set_other, get_or-set_same, get_or_past, cases_eq, times, walk, Lists, Slot, no_slot, slot_at}
+use Rattle.descriptor_table.proofs.Common.{used_for, Use}
 use Rattle.descriptor_table.proofs.Counting.{times_here, times_there}
 
 -- 1 if the test holds

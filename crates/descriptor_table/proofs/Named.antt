@@ -1,15 +1,7 @@
 -- Names whose held sets turn, one after another, unless one of them doesn't fit its set, or its handle has no held set, or is there
 -- twice: for `SetTable::take_each` and `keep_each`. Then names of sets that a call has taken: for `settle_each` and `wait_each`.
-use Rattle.std.proofs.lemmas.Grind.{common_steps}
-use Rattle.std.proofs.Common.{◌≡◌, ◌≢◌, ℕ, ◌+◌, ◌<◌, ◌≤◌, ◌&&◌, true, false, Bool, List, length, map, get_or, set, inl, inr, refl, sym, ap, subst, ◌∙◌, arith}
-use Rattle.std.proofs.lemmas.List.{get_or_default}
-use Rattle.std.proofs.lemmas.Bool.{cases_eq}
-use Rattle.descriptor_table.specs.Sets.{AllFit, AreHeldOnce, is_held}
-use Rattle.descriptor_table.specs.Slots.{Slot, slot_at}
-use Rattle.descriptor_table.specs.Tables.{HasTaken, TurnEach, place_at}
-use Rattle.descriptor_table.specs.declared.handle.SetHandle.{SetHandle}
-use Rattle.descriptor_table.specs.declared.handle.SetName.{Ghosts}
-use Rattle.descriptor_table.specs.declared.slot.Use.TheVariants.{Held}
+use Rattle.descriptor_table.proofs.Common.{common_steps, ◌≡◌, ◌≢◌, ℕ, ◌+◌, ◌<◌, ◌≤◌, ◌&&◌, true, false, Bool, List, length, map, get_or, set, inl, inr, refl, sym, ap, subst, ◌∙◌, arith, get_or_default, cases_eq, AllFit, AreHeldOnce, is_held, Slot, slot_at, HasTaken, TurnEach, place_at}
+use Rattle.descriptor_table.proofs.Common.{SetHandle, Ghosts, Held}
 use Rattle.descriptor_table.proofs.Chains.{and_true}
 use Rattle.descriptor_table.proofs.Holding.{TurnedFirst, TurnedSome, first_all, first_more, slot_was, turn_more, turned_all, turned_no, turned_none}
 use Rattle.descriptor_table.proofs.Names.{handle_read, handles_long, place_read}

@@ -1,9 +1,5 @@
 -- The handles of names: `n` says which each has, and `each` that a list's are those of its names.
-use Rattle.std.proofs.Common.{◌≡◌, ℕ, ◌<◌, List, ◌++◌, length, get_or, set, map, sym, ap, ◌∙◌}
-use Rattle.std.proofs.lemmas.List.{get_or-map, length-map, map-append, map-set}
-use Rattle.descriptor_table.specs.Tables.{place_at}
-use Rattle.descriptor_table.specs.declared.handle.SetHandle.{SetHandle}
-use Rattle.descriptor_table.specs.declared.handle.SetName.{Ghosts}
+use Rattle.descriptor_table.proofs.Common.{◌≡◌, ℕ, ◌<◌, List, ◌++◌, length, get_or, set, map, sym, ap, ◌∙◌, get_or-map, length-map, map-append, map-set, place_at, SetHandle, Ghosts}
 
 module _ {N T : Type 0} (n : Ghosts N T) (each : (names : List N) → n.handles_of names ≡ map n.handle_of names) where
   -- as many as there are names

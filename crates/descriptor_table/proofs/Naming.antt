@@ -1,13 +1,7 @@
 -- What handles name once slots changed: for `LayoutRegistry`, and for the calls of a set manager by which sets are freed, wait or go.
 -- A handle is the *last* of its slot if no later one was given for the place; `shown` is what that one names.
-use Rattle.std.proofs.lemmas.Grind.{common_steps}
-use Rattle.std.proofs.Common.{arith, ◌≡◌, ◌≢◌, ℕ, ◌<◌, ◌==◌, ◌&&◌, nat_le, nat_lt, Bool, false, List, length, slice_index_or, if◌then◌else◌, Option, None, sym, ap, ◌∙◌, eqb-true, rules}
-use Rattle.std.proofs.lemmas.List.{get_or_default}
-use Rattle.descriptor_table.specs.Sets.{AreHeldOnce, LoseNames, is_last, sets_of}
-use Rattle.descriptor_table.specs.Slots.{is_live, slot_at}
-use Rattle.descriptor_table.specs.Tables.{place_at}
-use Rattle.descriptor_table.specs.declared.handle.SetHandle.{SetHandle}
-use Rattle.descriptor_table.specs.Slots.{Slot}
+use Rattle.descriptor_table.proofs.Common.{common_steps, arith, ◌≡◌, ◌≢◌, ℕ, ◌<◌, ◌==◌, ◌&&◌, nat_le, nat_lt, Bool, false, List, length, slice_index_or, if◌then◌else◌, Option, None, sym, ap, ◌∙◌, eqb-true, rules, get_or_default, AreHeldOnce, LoseNames, is_last, sets_of, is_live, slot_at}
+use Rattle.descriptor_table.proofs.Common.{place_at, SetHandle, Slot}
 use Rattle.descriptor_table.proofs.Chains.{and_true}
 use Rattle.descriptor_table.proofs.Holding.{handle_is, held_is, named_or}
 

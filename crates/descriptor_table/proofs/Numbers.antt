@@ -1,19 +1,11 @@
 -- The users of layouts: a number is free once, so the free ones have room; and users are the sets that there are, when a slot changes.
-use Rattle.std.proofs.lemmas.Grind.{common_steps}
-use Rattle.std.proofs.Common.{◌≡◌, ◌≢◌, ℕ, ◌+◌, ◌-◌, ◌<◌, ◌≤◌, Bool, true, false, List, [], ◌∷◌, ◌++◌, is_some, inl, inr, refl, ◌∙◌, length, set, sym, ap, arith, eq-eqb, ne_eqb, ◌&&◌, ◌==◌, nat_eq, subst, if◌then◌else◌}
-use Rattle.std.proofs.lemmas.Bool.{and_right, cases_eq, cases_lt, false≢true}
-use Rattle.std.proofs.lemmas.List.{get_or-set_other, get_or-set_same, get_or_past, get_or_append_left, get_or_push, length-set, length_push}
+use Rattle.descriptor_table.proofs.Common.{common_steps, ◌≡◌, ◌≢◌, ℕ, ◌+◌, ◌-◌, ◌<◌, ◌≤◌, Bool, true, false, List, [], ◌∷◌, ◌++◌, is_some, inl, inr, refl, ◌∙◌, length, set, sym, ap, arith, eq-eqb, ne_eqb, ◌&&◌, ◌==◌, nat_eq, subst, if◌then◌else◌, and_right, cases_eq, cases_lt, false≢true}
+use Rattle.descriptor_table.proofs.Common.{get_or-set_other, get_or-set_same, get_or_past, get_or_append_left, get_or_push, length-set, length_push, AreFree, times, users_at, Relisted, layouts_in, removed_in, AreCounted, Slot, no_slot, count, is_removed, is_set_of, slot_at, HasLayout}
+use Rattle.descriptor_table.proofs.Common.{layouts_of, removed_of, removed_as, slots_of, users_in, SetTable, Chain}
 use Rattle.std.proofs.lemmas.Map.Keys.{IsDistinct-cons}
 use Rattle.std.proofs.lemmas.Map.Steps.{length-le_from_distinct_below}
 use Rattle.std.specs.List.{AllByRecursion, IsDistinct, list_any}
-use Rattle.descriptor_table.specs.Places.{AreFree, times, users_at}
-use Rattle.descriptor_table.specs.Lists.{Relisted, layouts_in, removed_in}
-use Rattle.descriptor_table.specs.Slots.{AreCounted, Slot, no_slot, count, is_removed, is_set_of, slot_at}
-use Rattle.descriptor_table.specs.Tables.{HasLayout, layouts_of, removed_of, removed_as, slots_of}
-use Rattle.descriptor_table.specs.Users.{users_in}
 use Rattle.descriptor_table.specs.declared.lists.Lists.{Lists}
-use Rattle.descriptor_table.specs.declared.set_table.SetTable.{SetTable}
-use Rattle.descriptor_table.specs.declared.slot.Chain.{Chain}
 use Rattle.descriptor_table.proofs.Counting.{times_here, times_there}
 use Rattle.descriptor_table.proofs.Entries.{in_place}
 use Rattle.descriptor_table.proofs.Growing.{count_grown}

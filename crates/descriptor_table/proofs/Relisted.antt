@@ -1,15 +1,8 @@
 -- A list of kept sets that was read or written: for the methods of `Lists`, and those that read its fields.
-use Rattle.std.proofs.lemmas.Grind.{common_steps}
-use Rattle.std.proofs.Common.{◌≡◌, ◌≢◌, ℕ, zero, suc, refl, ◌+◌, ◌<◌, false, if◌then◌else◌, List, [], ◌∷◌, length, get_or, set, map, sym, ap, subst, ◌∙◌, arith, ne_eqb}
-use Rattle.std.proofs.lemmas.List.{get_or_default, get_or-set_other, get_or-set_same, get_or_past, length-map, length-set, map-set}
-use Rattle.std.proofs.lemmas.Bool.{cases_eq, cases_lt}
-use Rattle.descriptor_table.specs.Giving.{list_of}
-use Rattle.descriptor_table.specs.Lists.{HasList, Relisted, chains_in, layouts_in, removed_in}
-use Rattle.descriptor_table.specs.Slots.{chain_at, is_removed, shown}
-use Rattle.descriptor_table.specs.declared.giving.Group.{Group}
-use Rattle.descriptor_table.specs.declared.giving.Group.TheVariants.{Going, KeptOf}
+use Rattle.descriptor_table.proofs.Common.{common_steps, ◌≡◌, ◌≢◌, ℕ, zero, suc, refl, ◌+◌, ◌<◌, false, if◌then◌else◌, List, [], ◌∷◌, length, get_or, set, map, sym, ap, subst, ◌∙◌, arith, ne_eqb, get_or_default, get_or-set_other, get_or-set_same, get_or_past, length-map, length-set, map-set}
+use Rattle.descriptor_table.proofs.Common.{cases_eq, cases_lt, list_of, HasList, Relisted, chains_in, layouts_in, removed_in, chain_at, is_removed, shown, Group, KeptOf, Chain}
+use Rattle.descriptor_table.specs.declared.giving.Group.TheVariants.{Going}
 use Rattle.descriptor_table.specs.declared.lists.Lists.{Lists}
-use Rattle.descriptor_table.specs.declared.slot.Chain.{Chain}
 
 -- a list that isn't that of a removed layout shows as it is
 shown_same : (c : Chain) → is_removed c ≡ false → shown c ≡ c

@@ -1,14 +1,7 @@
 -- A set that comes into a slot, gets a handle, or leaves: for `SetTable::put`, `hold_kept`, `take_out` and `take_listed`, and for `Store`.
 -- `old` are the slots before, `mid` those once the slot was picked from its list or its set taken out, `new` those after.
-use Rattle.std.proofs.lemmas.Grind.{common_steps}
-use Rattle.std.proofs.Common.{◌≡◌, ◌≢◌, ℕ, ◌+◌, ◌<◌, ◌≤◌, Bool, true, false, List, length, set, Option, None, is_some, refl, arith, rules}
-use Rattle.std.proofs.lemmas.List.{length-set, set-set}
-use Rattle.std.proofs.lemmas.Bool.{false≢true}
-use Rattle.descriptor_table.specs.Slots.{count, filled, is_in, slot_at}
-use Rattle.descriptor_table.specs.Tables.{At, GivesAny, HasRoom, Picks, Puts, Stays, is_usable, slots_of, used_for, vacated}
-use Rattle.descriptor_table.specs.declared.set_table.SetTable.{SetTable}
-use Rattle.descriptor_table.specs.declared.slot.Use.TheVariants.{Taken}
-use Rattle.descriptor_table.specs.Slots.{Slot}
+use Rattle.descriptor_table.proofs.Common.{common_steps, ◌≡◌, ◌≢◌, ℕ, ◌+◌, ◌<◌, ◌≤◌, Bool, true, false, List, length, set, Option, None, is_some, refl, arith, rules, length-set, set-set, false≢true, count, filled, is_in, slot_at, At, GivesAny, HasRoom, Picks, Puts, Stays, is_usable, slots_of}
+use Rattle.descriptor_table.proofs.Common.{used_for, vacated, SetTable, Taken, Slot}
 use Rattle.descriptor_table.proofs.Chains.{and_true}
 use Rattle.descriptor_table.proofs.Counts.{bit, count_set}
 use Rattle.descriptor_table.proofs.Listed.{other_slots, slot_set, test_within}

@@ -1,12 +1,7 @@
 -- What a table says of its lists stays when a slot comes to a list or leaves one, or comes to the table: for all methods that write slots.
 -- `l` are the slots before, `l'` after.
-use Rattle.std.proofs.lemmas.Grind.{common_steps}
-use Rattle.std.proofs.Common.{◌≡◌, ◌≢◌, ℕ, ◌+◌, ◌-◌, ◌<◌, ◌≤◌, true, false, List, [], ◌∷◌, ◌++◌, is_some, length, get_or, set, sym, ap, subst, ◌∙◌, arith, rules}
-use Rattle.std.proofs.lemmas.List.{length-map, length-set, length_push}
-use Rattle.descriptor_table.specs.Slots.{AreLinked, AreSound, IsListed, IsNowhere, IsQueue, Slot, chain_at, is_in, nexts_in, slot_at, slots_in, waits}
-use Rattle.descriptor_table.specs.declared.slot.Chain.{Chain}
-use Rattle.descriptor_table.specs.declared.slot.Use.TheVariants.{Held, Taken}
-use Rattle.descriptor_table.specs.declared.slot_list.SlotList.{SlotList}
+use Rattle.descriptor_table.proofs.Common.{common_steps, ◌≡◌, ◌≢◌, ℕ, ◌+◌, ◌-◌, ◌<◌, ◌≤◌, true, false, List, [], ◌∷◌, ◌++◌, is_some, length, get_or, set, sym, ap, subst, ◌∙◌, arith, rules, length-map, length-set, length_push, AreLinked, AreSound, IsListed, IsNowhere, IsQueue, Slot, chain_at}
+use Rattle.descriptor_table.proofs.Common.{is_in, nexts_in, slot_at, slots_in, waits, Chain, Held, Taken, SlotList}
 use Rattle.descriptor_table.proofs.Chains.{HasLists, empty_linked, few_set, listed_out, lists_set, nowhere_out, out_linked, pick_linked, picked, waits_no_list}
 use Rattle.descriptor_table.proofs.Growing.{chain_grown, known_grown, linked_grown, queue_grown}
 use Rattle.descriptor_table.proofs.Waiting.{first_waits, out_queue, pop_queue}

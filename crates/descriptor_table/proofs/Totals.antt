@@ -1,9 +1,5 @@
 -- How many sets are kept of several layouts together: the loop of `SetTable::kept_total`, at its start, with one layout more, and with all.
-use Rattle.std.proofs.lemmas.Grind.{common_steps}
-use Rattle.std.proofs.Common.{◌≡◌, ℕ, ◌+◌, ◌≤◌, ◌&&◌, nat_lt, Bool, List, arith}
-use Rattle.std.proofs.lemmas.Bool.{cases_eq, le-ltb, lt-ltb}
-use Rattle.descriptor_table.specs.Slots.{Slot, count, is_kept_of}
-use Rattle.descriptor_table.specs.Tables.{is_kept}
+use Rattle.descriptor_table.proofs.Common.{common_steps, ◌≡◌, ℕ, ◌+◌, ◌≤◌, ◌&&◌, nat_lt, Bool, List, arith, cases_eq, le-ltb, lt-ltb, Slot, count, is_kept_of, is_kept}
 use Rattle.descriptor_table.proofs.Chains.{HasLists}
 use Rattle.descriptor_table.proofs.Counts.{bit, count_as, count_split, none_count}
 

@@ -1,15 +1,8 @@
 -- Slots that pass a test are changed, one after another, as in the loops of `SetTable`: `settle_due`, `wait_each`, `trim` and others.
 -- `old` are the slots before a loop, `now` those before a step of it, `new` those after; `Turning` is the loop's invariant, and `Turns`
 -- what it leaves at its end. A set that is freed *settles*: it is kept, or goes. `o` is a slot before that, `n` the same slot after.
-use Rattle.std.proofs.lemmas.Grind.{common_steps}
-use Rattle.std.proofs.Common.{◌≡◌, ◌≢◌, ℕ, zero, suc, ◌+◌, ◌<◌, ◌≤◌, ◌⊎◌, ◌&&◌, Bool, true, false, if◌then◌else◌, List, [], ◌∷◌, length, set, ne_eqb, is_some, inl, refl, sym, ap, ◌∙◌, arith, nat_le, rules}
-use Rattle.std.proofs.lemmas.List.{length-set, set-set}
-use Rattle.std.proofs.lemmas.Bool.{cases_eq, ltb-false, true≢false}
-use Rattle.descriptor_table.specs.Slots.{IsNowhere, Slot, count, is_due, is_in, slot_at, waits_for}
-use Rattle.descriptor_table.specs.Tables.{Settings, CanBeHeld, IsBack, MayBecome, Picks, Stays, Turns, removed_of, holds, is_kept, next_use, stays, used_for, Becomes, settings_of}
-use Rattle.descriptor_table.specs.declared.set_table.SetTable.{SetTable}
-use Rattle.descriptor_table.specs.declared.slot.Use.{Use}
-use Rattle.descriptor_table.specs.declared.slot.Use.TheVariants.{Going, Kept, Taken}
+use Rattle.descriptor_table.proofs.Common.{common_steps, ◌≡◌, ◌≢◌, ℕ, zero, suc, ◌+◌, ◌<◌, ◌≤◌, ◌⊎◌, ◌&&◌, Bool, true, false, if◌then◌else◌, List, [], ◌∷◌, length, set, ne_eqb, is_some, inl, refl, sym, ap, ◌∙◌, arith, nat_le, rules, length-set, set-set, cases_eq, ltb-false, true≢false}
+use Rattle.descriptor_table.proofs.Common.{IsNowhere, Slot, count, is_due, is_in, slot_at, waits_for, Settings, CanBeHeld, IsBack, MayBecome, Picks, Stays, Turns, removed_of, holds, is_kept, next_use, stays, used_for, Becomes, settings_of, SetTable, Use, Going, Kept, Taken}
 use Rattle.descriptor_table.proofs.Chains.{and_true, lists_apart, nowhere_out}
 use Rattle.descriptor_table.proofs.Counts.{bit, count_set, same_count}
 use Rattle.descriptor_table.proofs.Listed.{other_slots, slot_set, with_use}

@@ -1,12 +1,6 @@
 -- The queue of the sets that wait, when a place comes to it or leaves it: for `enqueue`, and `SetTable::pick_due`.
-use Rattle.std.proofs.lemmas.Grind.{common_steps}
-use Rattle.std.proofs.Common.{◌≡◌, ◌≢◌, ℕ, zero, suc, ◌<◌, ◌≤◌, true, false, List, [], ◌∷◌, insert, length, get_or, set, inl, inr, refl, sym, ap, subst, ◌∙◌, arith, rules}
-use Rattle.std.proofs.lemmas.List.{length-set}
-use Rattle.std.proofs.lemmas.Bool.{cases_eq, true≢false}
-use Rattle.std.proofs.lemmas.List.Sorted.{IsNonDecreasingBy-drop, IsNonDecreasingBy-insert}
-use Rattle.std.specs.List.Sorted.{IsNonDecreasingBy, IsPartitionPoint}
-use Rattle.descriptor_table.specs.Places.{times}
-use Rattle.descriptor_table.specs.Slots.{IsQueue, Slot, frame_of, is_due, slot_at, waits}
+use Rattle.descriptor_table.proofs.Common.{common_steps, ◌≡◌, ◌≢◌, ℕ, zero, suc, ◌<◌, ◌≤◌, true, false, List, [], ◌∷◌, insert, length, get_or, set, inl, inr, refl, sym, ap, subst, ◌∙◌, arith, rules, length-set, cases_eq, true≢false, IsNonDecreasingBy-drop, IsNonDecreasingBy-insert}
+use Rattle.descriptor_table.proofs.Common.{IsNonDecreasingBy, IsPartitionPoint, times, IsQueue, Slot, frame_of, is_due, slot_at, waits}
 use Rattle.descriptor_table.proofs.Counting.{times_here, times_there}
 use Rattle.descriptor_table.proofs.Counts.{lists_few}
 use Rattle.descriptor_table.proofs.Listed.{first_passes, lists_other, lists_pop, lists_push, not_listed, one_none, other_slots, slot_set, test_within}

@@ -1,14 +1,7 @@
 -- A slot came to a list: for the methods of `SetTable`. `t` is the table before.
-use Rattle.std.proofs.Common.{◌≡◌, ℕ, ◌+◌, ◌<◌, ◌≤◌, true, List, get_or, length, set, refl, sym, ap, subst, ◌∙◌, arith}
-use Rattle.std.specs.VecDeque.{deque_capacity}
-use Rattle.descriptor_table.specs.Slots.{AreLinked, AreSound, IsNowhere, Slot, chain_at, is_in, nexts_in, slot_at, slots_in}
-use Rattle.descriptor_table.specs.Lists.{HasList}
-use Rattle.descriptor_table.specs.Tables.{Settings, layouts_of, settings_of, slots_of}
-use Rattle.descriptor_table.specs.Lists.{chains_in}
-use Rattle.descriptor_table.specs.declared.set_table.SetTable.{SetTable}
-use Rattle.descriptor_table.specs.declared.giving.Group.{Group}
-use Rattle.descriptor_table.specs.declared.giving.Group.TheVariants.{Going, KeptOf}
-use Rattle.descriptor_table.specs.declared.slot_list.SlotList.{SlotList}
+use Rattle.descriptor_table.proofs.Common.{◌≡◌, ℕ, ◌+◌, ◌<◌, ◌≤◌, true, List, get_or, length, set, refl, sym, ap, subst, ◌∙◌, arith, deque_capacity, AreLinked, AreSound, IsNowhere, Slot, chain_at, is_in, nexts_in, slot_at, slots_in, HasList, Settings, layouts_of, settings_of, slots_of}
+use Rattle.descriptor_table.proofs.Common.{chains_in, SetTable, Group, KeptOf, SlotList}
+use Rattle.descriptor_table.specs.declared.giving.Group.TheVariants.{Going}
 use Rattle.descriptor_table.proofs.Chains.{after_linked, held_nowhere, link_linked, link_more}
 use Rattle.descriptor_table.proofs.Sound.{link_sound, listed, same_long}
 

@@ -1,5 +1,4 @@
-use Rattle.std.proofs.Common.{ℕ, [], ◌∷◌, false, sym, subst}
-use Rattle.descriptor_table.specs.Sets.{LoseNames, sets_of}
+use Rattle.descriptor_manager.proofs.Common.{ℕ, [], ◌∷◌, false, sym, subst, LoseNames, sets_of}
 use Rattle.descriptor_table.specs.Handles.{values_of}
 use Rattle.descriptor_manager.proofs.Adding.{left_names, left_only}
 use Rattle.descriptor_manager.proofs.layout_registry.LayoutRegistry.remove.Goals as goal

@@ -1,4 +1,4 @@
-use Rattle.gpu_descriptor.specs.Caller.SetLayouts.{IsMeant}
+use Rattle.descriptor_manager.proofs.Common.{IsMeant}
 use Rattle.descriptor_manager.proofs.Adding.{added_meant, added_names, added_others}
 use Rattle.descriptor_manager.proofs.layout_registry.LayoutRegistry.renew.Goals as goal
 

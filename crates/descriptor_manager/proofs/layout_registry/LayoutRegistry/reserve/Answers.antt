@@ -1,5 +1,4 @@
-use Rattle.std.proofs.Common.{sym, ap, ◌∙◌}
-use Rattle.descriptor_table.specs.Slots.{slot_at}
+use Rattle.descriptor_manager.proofs.Common.{sym, ap, ◌∙◌, slot_at}
 use Rattle.descriptor_manager.proofs.layout_registry.LayoutRegistry.reserve.Goals as goal
 
 pub invariant_of-self : goal.invariant_of-self

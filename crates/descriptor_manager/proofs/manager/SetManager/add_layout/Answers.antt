@@ -1,10 +1,5 @@
-use Rattle.std.proofs.Common.{◌≡◌, ◌<◌, inl, inr, refl, sym, ap, ◌∙◌, subst, arith, false}
+use Rattle.descriptor_manager.proofs.Common.{◌≡◌, ◌<◌, inl, inr, refl, sym, ap, ◌∙◌, subst, arith, false, Settings, is_usable, test_within, layout_slots, seen, removed_in}
 use Rattle.std.specs.Prelude.{OnErr}
-use Rattle.descriptor_table.specs.Tables.{Settings, is_usable}
-use Rattle.descriptor_table.proofs.Listed.{test_within}
-use Rattle.descriptor_manager.specs.LayoutRegistries.{layout_slots}
-use Rattle.descriptor_manager.specs.Managers.{seen}
-use Rattle.descriptor_manager.specs.Stores.{removed_in}
 use Rattle.descriptor_manager.proofs.Numbering.{apart_from, gone, layout_used, number_left, seen_kept, sets_more, sets_over, if_here, if_other}
 use Rattle.descriptor_manager.proofs.manager.SetManager.add_layout.Goals.{in-Some+else-is_usable, in_default}
 use Rattle.descriptor_manager.proofs.manager.SetManager.add_layout.Goals as goal

@@ -1,7 +1,4 @@
-use Rattle.std.proofs.Common.{◌+◌, length, inl, refl, sym, ap, ◌∙◌, subst, arith}
-use Rattle.descriptor_table.specs.Tables.{Settings}
-use Rattle.descriptor_manager.specs.LayoutRegistries.{layout_slots}
-use Rattle.descriptor_manager.specs.Own.{HasSetsOf}
+use Rattle.descriptor_manager.proofs.Common.{◌+◌, length, inl, refl, sym, ap, ◌∙◌, subst, arith, Settings, layout_slots, HasSetsOf}
 use Rattle.descriptor_manager.proofs.Numbering.{apart_from, layout_used, names_from, next_unused, past_there, sets_more, sets_over}
 use Rattle.descriptor_manager.proofs.manager.SetManager.add_number.Goals.{After-reserve, After-reserve_layout}
 use Rattle.descriptor_manager.proofs.manager.SetManager.add_number.Goals as goal

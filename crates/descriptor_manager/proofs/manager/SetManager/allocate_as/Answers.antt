@@ -1,5 +1,4 @@
-use Rattle.std.proofs.Common.{◌≡◌, subst, sym, rules}
-use Rattle.descriptor_manager.specs.Stores.{IsRefusedAtLast, handles_in}
+use Rattle.descriptor_manager.proofs.Common.{◌≡◌, subst, sym, rules, IsRefusedAtLast, handles_in}
 use Rattle.descriptor_manager.proofs.Owned.{if_some, refused_names}
 use Rattle.descriptor_manager.proofs.Requested.{come_then, one_refused, sets_then}
 use Rattle.descriptor_manager.proofs.manager.SetManager.allocate_as.Goals as goal

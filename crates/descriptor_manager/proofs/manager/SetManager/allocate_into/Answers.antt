@@ -1,7 +1,4 @@
-use Rattle.std.proofs.lemmas.Grind.{common_steps}
-use Rattle.std.proofs.Common.{length, refl, inl, sym, arith}
-use Rattle.descriptor_table.specs.declared.slot.Use.TheVariants.{Held}
-use Rattle.descriptor_table.proofs.Counts.{count_few}
+use Rattle.descriptor_manager.proofs.Common.{common_steps, length, refl, inl, sym, arith, Held, count_few}
 use Rattle.descriptor_manager.proofs.Owned.{if_some, refused_names}
 use Rattle.descriptor_manager.proofs.Requested.{come_then, sets_then}
 use Rattle.descriptor_manager.proofs.manager.SetManager.allocate_into.Goals as goal

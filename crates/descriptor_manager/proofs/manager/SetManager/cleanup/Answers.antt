@@ -1,5 +1,4 @@
-use Rattle.std.proofs.Common.{rules}
-use Rattle.descriptor_manager.specs.Stores.{slots_in}
+use Rattle.descriptor_manager.proofs.Common.{rules, slots_in}
 use Rattle.descriptor_manager.proofs.Owned.{sets_stay}
 use Rattle.descriptor_manager.proofs.Showing.{cleaned_names}
 use Rattle.descriptor_manager.proofs.Arriving.{none_left}

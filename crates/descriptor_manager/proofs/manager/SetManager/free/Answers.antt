@@ -1,7 +1,4 @@
-use Rattle.std.proofs.Common.{refl, subst, ◌∙◌}
-use Rattle.descriptor_table.specs.Sets.{AreHeldOnce}
-use Rattle.descriptor_manager.specs.Managers.{seen}
-use Rattle.descriptor_manager.specs.Stores.{removed_in, slots_in}
+use Rattle.descriptor_manager.proofs.Common.{refl, subst, ◌∙◌, AreHeldOnce, seen, removed_in, slots_in}
 use Rattle.descriptor_manager.proofs.Owned.{only_store, sets_stay}
 use Rattle.descriptor_manager.proofs.Showing.{back_quiet, lost_names}
 use Rattle.descriptor_manager.proofs.manager.SetManager.free.Goals as goal

@@ -1,7 +1,4 @@
-use Rattle.std.proofs.Common.{refl, subst, ◌∙◌, rules}
-use Rattle.descriptor_table.specs.Sets.{AreHeldOnce}
-use Rattle.descriptor_manager.specs.Managers.{seen}
-use Rattle.descriptor_manager.specs.Stores.{slots_in}
+use Rattle.descriptor_manager.proofs.Common.{refl, subst, ◌∙◌, rules, AreHeldOnce, seen, slots_in}
 use Rattle.descriptor_manager.proofs.Owned.{only_store, sets_stay}
 use Rattle.descriptor_manager.proofs.Showing.{lost_names}
 use Rattle.descriptor_manager.proofs.manager.SetManager.free_after.Goals.{Else-not-wait_each}

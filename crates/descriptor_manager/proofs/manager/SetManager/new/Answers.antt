@@ -1,8 +1,4 @@
-use Rattle.std.proofs.lemmas.Grind.{common_steps}
-use Rattle.descriptor_table.specs.Tables.{Settings, is_usable}
-use Rattle.std.proofs.Common.{◌≡◌, [], length, true≢false, sym, ap, ◌∙◌, arith}
-use Rattle.descriptor_table.specs.Slots.{slot_at}
-use Rattle.descriptor_manager.specs.LayoutRegistries.{layout_slots}
+use Rattle.descriptor_manager.proofs.Common.{common_steps, Settings, is_usable, ◌≡◌, [], length, true≢false, sym, ap, ◌∙◌, arith, slot_at, layout_slots}
 use Rattle.descriptor_manager.proofs.Owned.{found_none}
 use Rattle.descriptor_manager.proofs.manager.SetManager.new.Goals as goal
 

@@ -1,6 +1,5 @@
-use Rattle.std.proofs.Common.{◌≡◌, subst}
+use Rattle.descriptor_manager.proofs.Common.{◌≡◌, subst, BucketOf}
 use Rattle.gpu_descriptor.specs.Caller.Views.{view_in}
-use Rattle.gpu_descriptor.specs.Model.Books.{BucketOf}
 use Rattle.descriptor_manager.proofs.Owned.{if_some, known_pools}
 use Rattle.descriptor_manager.proofs.manager.SetManager.pool.Goals as goal
 

@@ -1,5 +1,4 @@
-use Rattle.std.proofs.Common.{◌≡◌, length, subst}
-use Rattle.gpu_descriptor.specs.Model.Books.{BucketOf}
+use Rattle.descriptor_manager.proofs.Common.{◌≡◌, length, subst, BucketOf}
 use Rattle.descriptor_manager.proofs.Owned.{if_some, known_pools}
 use Rattle.descriptor_manager.proofs.manager.SetManager.pool_count.Goals as goal
 

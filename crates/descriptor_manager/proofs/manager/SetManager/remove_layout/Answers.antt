@@ -1,16 +1,6 @@
-use Rattle.std.proofs.lemmas.Grind.{common_steps}
-use Rattle.std.proofs.Common.{◌≡◌, ◌≢◌, ℕ, true, is_some, inl, inr, refl, sym, ap, ◌∙◌, arith, rules, [], Some, length, length-set}
+use Rattle.descriptor_manager.proofs.Common.{common_steps, ◌≡◌, ◌≢◌, ℕ, true, is_some, inl, inr, refl, sym, ap, ◌∙◌, arith, rules, [], Some, length, length-set, SetLayout, cases_eq, Slot, slot_at, Settings, vacated, none_count, names_kept, other_slots, slot_set, test_within, layout_slots}
+use Rattle.descriptor_manager.proofs.Common.{layouts_by, NoneComes, removed_in, side_of, slots_in, seen}
 use Rattle.std.proofs.lemmas.List.Elements.{All-cons, All-nil}
-use Rattle.gpu_descriptor.specs.declared.layout.SetLayout.{SetLayout}
-use Rattle.std.proofs.lemmas.Bool.{cases_eq}
-use Rattle.descriptor_table.specs.Slots.{Slot, slot_at}
-use Rattle.descriptor_table.specs.Tables.{Settings, vacated}
-use Rattle.descriptor_table.proofs.Counts.{none_count}
-use Rattle.descriptor_table.proofs.Naming.{names_kept}
-use Rattle.descriptor_table.proofs.Listed.{other_slots, slot_set, test_within}
-use Rattle.descriptor_manager.specs.LayoutRegistries.{layout_slots, layouts_by}
-use Rattle.descriptor_manager.specs.Stores.{NoneComes, removed_in, side_of, slots_in}
-use Rattle.descriptor_manager.specs.Managers.{seen}
 use Rattle.descriptor_manager.proofs.Back.{kept_out}
 use Rattle.descriptor_manager.proofs.Naming.{kept_as}
 use Rattle.descriptor_manager.proofs.Showing.{quiet_shown, turned}

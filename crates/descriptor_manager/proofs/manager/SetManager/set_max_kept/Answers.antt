@@ -1,4 +1,4 @@
-use Rattle.std.proofs.Common.{rules}
+use Rattle.descriptor_manager.proofs.Common.{rules}
 use Rattle.descriptor_manager.proofs.Owned.{sets_stay}
 use Rattle.descriptor_manager.proofs.Showing.{trim_names}
 use Rattle.descriptor_manager.proofs.manager.SetManager.set_max_kept.Goals as goal

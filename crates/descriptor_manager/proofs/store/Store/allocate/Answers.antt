@@ -1,7 +1,4 @@
-use Rattle.std.proofs.Common.{◌≡◌, ◌<◌, ℕ, zero, suc, [], ◌∷◌, length, true, arith}
-use Rattle.descriptor_table.specs.Slots.{is_kept_of, slot_at}
-use Rattle.descriptor_table.specs.Tables.{place_at}
-use Rattle.descriptor_manager.specs.Stores.{slots_in}
+use Rattle.descriptor_manager.proofs.Common.{◌≡◌, ◌<◌, ℕ, zero, suc, [], ◌∷◌, length, true, arith, is_kept_of, slot_at, place_at, slots_in}
 use Rattle.descriptor_manager.proofs.Requests.{from_kept}
 use Rattle.descriptor_manager.proofs.store.Store.allocate.Goals.{After-hold_next}
 use Rattle.descriptor_manager.proofs.store.Store.allocate.Goals as goal

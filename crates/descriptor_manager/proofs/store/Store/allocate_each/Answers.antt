@@ -1,6 +1,4 @@
-use Rattle.std.proofs.Common.{length, refl, arith}
-use Rattle.descriptor_table.specs.declared.slot.Use.TheVariants.{Held}
-use Rattle.descriptor_table.proofs.Names.{handles_long}
+use Rattle.descriptor_manager.proofs.Common.{length, refl, arith, Held, handles_long}
 use Rattle.descriptor_manager.proofs.Requests.{from_kept}
 use Rattle.descriptor_manager.proofs.store.Store.allocate_each.Goals as goal
 

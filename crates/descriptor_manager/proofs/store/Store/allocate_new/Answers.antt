@@ -1,9 +1,4 @@
-use Rattle.std.proofs.lemmas.Grind.{common_steps}
-use Rattle.std.proofs.Common.{◌≡◌, ◌<◌, ℕ, zero, suc, [], ◌∷◌, length, List, true, arith}
-use Rattle.gpu_descriptor.proofs.request.Passed.{passed}
-use Rattle.descriptor_table.specs.Slots.{is_kept_of, slot_at}
-use Rattle.descriptor_table.specs.Tables.{place_at}
-use Rattle.descriptor_manager.specs.Stores.{kept_of, slots_in}
+use Rattle.descriptor_manager.proofs.Common.{common_steps, ◌≡◌, ◌<◌, ℕ, zero, suc, [], ◌∷◌, length, List, true, arith, passed, is_kept_of, slot_at, place_at, kept_of, slots_in}
 use Rattle.descriptor_manager.proofs.Bringing.{Brings, brought}
 use Rattle.descriptor_manager.proofs.Joining.{layout_stays}
 use Rattle.descriptor_manager.proofs.Requests.{from_asked, from_refused}

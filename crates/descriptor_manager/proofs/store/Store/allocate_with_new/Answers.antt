@@ -1,13 +1,4 @@
-use Rattle.std.proofs.Common.{◌≡◌, ℕ, ◌<◌, ◌++◌, ◌∙◌, true, length, refl, sym, ap, subst, arith, rules}
-use Rattle.std.proofs.lemmas.List.{get_or_append_left, length-append}
-use Rattle.gpu_descriptor.specs.Caller.Sets.{AreOfLayout}
-use Rattle.gpu_descriptor.proofs.request.Passed.{passed}
-use Rattle.descriptor_table.specs.Slots.{is_kept_of, slot_at}
-use Rattle.descriptor_table.specs.Tables.{place_at}
-use Rattle.descriptor_table.specs.declared.handle.SetHandle.{SetHandle}
-use Rattle.descriptor_table.specs.declared.slot.Use.TheVariants.{Held}
-use Rattle.descriptor_table.proofs.Names.{handles_both, handles_long}
-use Rattle.descriptor_manager.specs.Stores.{ComesOf, HoldEach, kept_of, slots_in}
+use Rattle.descriptor_manager.proofs.Common.{◌≡◌, ℕ, ◌<◌, ◌++◌, ◌∙◌, true, length, refl, sym, ap, subst, arith, rules, get_or_append_left, length-append, AreOfLayout, passed, is_kept_of, slot_at, place_at, SetHandle, Held, handles_both, handles_long, ComesOf, HoldEach, kept_of, slots_in}
 use Rattle.descriptor_manager.proofs.Bringing.{Brings, brought}
 use Rattle.descriptor_manager.proofs.Fitting.{fit_both}
 use Rattle.descriptor_manager.proofs.Growing.{grow_more}

@@ -1,13 +1,5 @@
-use Rattle.std.proofs.lemmas.Grind.{common_steps}
-use Rattle.std.proofs.Common.{ℕ, ap, subst, arith, ◌-◌, ◌∙◌, inl, inr, sym, true≢false}
+use Rattle.descriptor_manager.proofs.Common.{common_steps, ℕ, ap, subst, arith, ◌-◌, ◌∙◌, inl, inr, sym, true≢false, Ghosts, AllocationError, passed, count, is_kept, Asks, IsCleared, IsRefused, KeepsContents, kept_of, Store}
 use Rattle.std.proofs.lemmas.Result.{IfErr-weaker, on_ok_weaker}
-use Rattle.gpu_descriptor_types.specs.declared.device.DescriptorDevice.{Ghosts}
-use Rattle.gpu_descriptor.specs.declared.errors.AllocationError.{AllocationError}
-use Rattle.gpu_descriptor.proofs.request.Passed.{passed}
-use Rattle.descriptor_table.specs.Slots.{count}
-use Rattle.descriptor_table.specs.Tables.{is_kept}
-use Rattle.descriptor_manager.specs.Stores.{Asks, IsCleared, IsRefused, KeepsContents, kept_of}
-use Rattle.descriptor_manager.specs.declared.store.Store.{Store}
 use Rattle.descriptor_manager.proofs.Arriving.{none_left}
 use Rattle.descriptor_manager.proofs.store.Store.bring.Goals.{After-cleanup}
 use Rattle.descriptor_manager.proofs.store.Store.bring.Goals as goal

@@ -1,4 +1,4 @@
-use Rattle.std.proofs.Common.{◌∙◌, rules}
+use Rattle.descriptor_manager.proofs.Common.{◌∙◌, rules}
 use Rattle.descriptor_manager.proofs.Given.{accounted_as, exact_as}
 use Rattle.descriptor_manager.proofs.Back.{cleaned, turned_sets}
 use Rattle.descriptor_manager.proofs.Arriving.{arrived, clears, clears_arrives}

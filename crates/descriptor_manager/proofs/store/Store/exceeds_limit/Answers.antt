@@ -1,4 +1,4 @@
-use Rattle.std.proofs.Common.{rules, ◌≡◌, ◌*◌, ◌∙◌, if◌then◌else◌, sum, sym, ap}
+use Rattle.descriptor_manager.proofs.Common.{rules, ◌≡◌, ◌*◌, ◌∙◌, if◌then◌else◌, sum, sym, ap}
 use Rattle.gpu_descriptor.specs.Caller.Call.{layout_key}
 use Rattle.gpu_descriptor.specs.Model.Load.{set_descriptors}
 use Rattle.descriptor_manager.proofs.store.Store.exceeds_limit.Goals as goal

@@ -1,7 +1,4 @@
-use Rattle.std.proofs.Common.{rules}
-use Rattle.descriptor_table.specs.Slots.{is_due}
-use Rattle.descriptor_table.specs.Tables.{removed_of, slots_of, vacated, IsBack, Turns}
-use Rattle.descriptor_table.proofs.Turning.{due_full}
+use Rattle.descriptor_manager.proofs.Common.{rules, is_due, removed_of, slots_of, vacated, IsBack, Turns, due_full}
 use Rattle.descriptor_manager.proofs.Given.{accounted_as, exact_as}
 use Rattle.descriptor_manager.proofs.Back.{came_back, turned_sets}
 use Rattle.descriptor_manager.proofs.Following.{follow_turns, follows_back, none_goes}

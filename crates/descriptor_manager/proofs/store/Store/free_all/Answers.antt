@@ -1,5 +1,4 @@
-use Rattle.std.proofs.Common.{◌∙◌, is_some, rules}
-use Rattle.descriptor_table.specs.Tables.{Becomes, Turns, slots_of, vacated}
+use Rattle.descriptor_manager.proofs.Common.{◌∙◌, is_some, rules, Becomes, Turns, slots_of, vacated}
 use Rattle.descriptor_manager.proofs.Given.{accounted_as, exact_as}
 use Rattle.descriptor_manager.proofs.Back.{all_leave, left_follows, turned_sets}
 use Rattle.descriptor_manager.proofs.Arriving.{arrived}

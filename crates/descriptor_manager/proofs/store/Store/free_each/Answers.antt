@@ -1,5 +1,4 @@
-use Rattle.std.proofs.Common.{◌∙◌, refl, rules}
-use Rattle.descriptor_table.specs.Tables.{IsBack, TurnEach, removed_of, slots_of, vacated}
+use Rattle.descriptor_manager.proofs.Common.{◌∙◌, refl, rules, IsBack, TurnEach, removed_of, slots_of, vacated}
 use Rattle.descriptor_manager.proofs.Given.{accounted_as, exact_as}
 use Rattle.descriptor_manager.proofs.Following.{follow_each, follows_back}
 use Rattle.descriptor_manager.proofs.Listed.{back_each, settled_each}

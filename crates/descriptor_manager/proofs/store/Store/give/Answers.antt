@@ -1,11 +1,5 @@
-use Rattle.std.proofs.lemmas.Grind.{common_steps}
-use Rattle.std.proofs.Common.{◌≡◌, refl, arith}
-use Rattle.descriptor_table.specs.Giving.{is_of}
-use Rattle.descriptor_table.specs.Slots.{count}
-use Rattle.descriptor_table.specs.Tables.{slots_of}
-use Rattle.descriptor_table.proofs.Counts.{count_none}
+use Rattle.descriptor_manager.proofs.Common.{common_steps, ◌≡◌, refl, arith, is_of, count, slots_of, count_none, side_of}
 use Rattle.descriptor_manager.proofs.Given.{none_turns, returns_none}
-use Rattle.descriptor_manager.specs.Stores.{side_of}
 use Rattle.descriptor_manager.proofs.store.Store.give.Goals as goal
 
 pub returns-then-is_empty-clause-frees : goal.returns-then-is_empty-clause-frees

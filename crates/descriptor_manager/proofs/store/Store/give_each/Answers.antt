@@ -1,9 +1,4 @@
-use Rattle.std.proofs.Common.{rules, length, sym, ap, arith}
-use Rattle.gpu_descriptor.specs.Caller.Sets.{items_of}
-use Rattle.gpu_descriptor.specs.Model.Agreement.{count_of}
-use Rattle.descriptor_table.specs.Sets.{sets_in}
-use Rattle.descriptor_table.specs.Tables.{slots_of}
-use Rattle.descriptor_table.proofs.Leaving.{given_all}
+use Rattle.descriptor_manager.proofs.Common.{rules, length, sym, ap, arith, items_of, count_of, sets_in, slots_of, given_all}
 use Rattle.descriptor_manager.proofs.Given.{all_count, all_many, given_count}
 use Rattle.descriptor_manager.proofs.store.Store.give_each.Goals as goal
 

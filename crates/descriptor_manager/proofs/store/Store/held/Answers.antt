@@ -1,13 +1,5 @@
-use Rattle.std.proofs.lemmas.Grind.{common_steps}
-use Rattle.std.proofs.Common.{◌≡◌, ℕ, suc, ◌+◌, ◌&&◌, true, false, List, [], ◌∷◌, length, Option, is_some, refl, arith}
-use Rattle.std.proofs.lemmas.Bool.{and_right}
-use Rattle.gpu_descriptor.specs.Caller.States.{outstanding_of}
-use Rattle.descriptor_table.specs.Sets.{joined, sets_in}
-use Rattle.descriptor_table.specs.Slots.{Slot, count, in_list, slot_at, waits, waits_for}
-use Rattle.descriptor_table.specs.Tables.{holds, is_held_use, is_kept}
-use Rattle.descriptor_table.specs.declared.slot.Use.{Use}
-use Rattle.descriptor_table.proofs.Counts.{bit}
-use Rattle.descriptor_manager.specs.Stores.{is_placed, slots_in}
+use Rattle.descriptor_manager.proofs.Common.{common_steps, ◌≡◌, ℕ, suc, ◌+◌, ◌&&◌, true, false, List, [], ◌∷◌, length, Option, is_some, refl, arith, and_right, outstanding_of, joined, sets_in, Slot, count, in_list, slot_at, waits, waits_for, holds, is_held_use, is_kept, Use, bit, is_placed}
+use Rattle.descriptor_manager.proofs.Common.{slots_in}
 use Rattle.descriptor_manager.proofs.Arriving.{placed_in}
 use Rattle.descriptor_manager.proofs.store.Store.held.Goals.{After-waiting}
 use Rattle.descriptor_manager.proofs.store.Store.held.Goals as goal

@@ -1,7 +1,4 @@
-use Rattle.std.proofs.lemmas.Grind.{common_steps}
-use Rattle.std.proofs.Common.{◌∙◌, subst, arith, length-set, take_all}
-use Rattle.descriptor_table.specs.Sets.{AllFit}
-use Rattle.descriptor_manager.specs.Stores.{ComesOf, slots_in}
+use Rattle.descriptor_manager.proofs.Common.{common_steps, ◌∙◌, subst, arith, length-set, take_all, AllFit, ComesOf, slots_in}
 use Rattle.descriptor_manager.proofs.Fitting.{one_more}
 use Rattle.descriptor_manager.proofs.Growing.{grow_more}
 use Rattle.descriptor_manager.proofs.Joining.{held_start, held_stays, layout_stays, sets_then, stays_then, store_same}

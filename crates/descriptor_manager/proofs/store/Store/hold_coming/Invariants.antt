@@ -1,8 +1,4 @@
-use Rattle.std.proofs.Common.{◌≡◌, ◌+◌, length, take}
-use Rattle.gpu_descriptor.specs.Caller.Sets.{AreOfLayout}
-use Rattle.descriptor_table.specs.Sets.{AllFit}
-use Rattle.descriptor_table.specs.Tables.{HasRoom}
-use Rattle.descriptor_manager.specs.Stores.{ComesOf, HoldEach, Holds, KeepsStore, slots_in}
+use Rattle.descriptor_manager.proofs.Common.{◌≡◌, ◌+◌, length, take, AreOfLayout, AllFit, HasRoom, ComesOf, HoldEach, Holds, KeepsStore, slots_in}
 use Rattle.descriptor_manager.proofs.store.Store.hold_coming.Given as goal
 
 abbrev pub invariant-loop-index : goal.invariant-loop-index

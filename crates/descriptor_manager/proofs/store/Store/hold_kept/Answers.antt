@@ -1,10 +1,4 @@
-use Rattle.std.proofs.lemmas.Grind.{common_steps}
-use Rattle.std.proofs.Common.{◌≡◌, ℕ, ◌+◌, ◌<◌, ◌∙◌, [], ◌∷◌, true, refl, sym, subst, arith, length-set, take_all}
-use Rattle.descriptor_table.specs.Sets.{AllFit}
-use Rattle.descriptor_table.specs.Slots.{is_kept_of, slot_at}
-use Rattle.descriptor_table.specs.Tables.{place_at}
-use Rattle.descriptor_table.proofs.Names.{handles_long, handles_written}
-use Rattle.descriptor_manager.specs.Stores.{NoneComes, slots_in}
+use Rattle.descriptor_manager.proofs.Common.{common_steps, ◌≡◌, ℕ, ◌+◌, ◌<◌, ◌∙◌, [], ◌∷◌, true, refl, sym, subst, arith, length-set, take_all, AllFit, is_kept_of, slot_at, place_at, handles_long, handles_written, NoneComes, slots_in}
 use Rattle.descriptor_manager.proofs.Fitting.{one_more}
 use Rattle.descriptor_manager.proofs.Growing.{grow_more}
 use Rattle.descriptor_manager.proofs.Joining.{held_start, held_stays, kept_then, stays_then, store_same, were_kept}

@@ -1,8 +1,4 @@
-use Rattle.std.proofs.Common.{◌≡◌, ℕ, ◌+◌, ◌<◌, true, length, take}
-use Rattle.descriptor_table.specs.Sets.{AllFit}
-use Rattle.descriptor_table.specs.Slots.{is_kept_of, slot_at}
-use Rattle.descriptor_table.specs.Tables.{HasRoom, place_at}
-use Rattle.descriptor_manager.specs.Stores.{HoldEach, Holds, NoneComes, kept_of, slots_in}
+use Rattle.descriptor_manager.proofs.Common.{◌≡◌, ℕ, ◌+◌, ◌<◌, true, length, take, AllFit, is_kept_of, slot_at, HasRoom, place_at, HoldEach, Holds, NoneComes, kept_of, slots_in}
 use Rattle.descriptor_manager.proofs.store.Store.hold_kept.Given as goal
 
 abbrev pub invariant-loop-index : goal.invariant-loop-index

@@ -1,13 +1,4 @@
-use Rattle.std.proofs.Common.{◌≡◌, ◌+◌, ◌∙◌, [], ◌∷◌, Option, length, slice_index_or, refl, ap, subst, arith, rules}
-use Rattle.std.proofs.lemmas.List.{get_or_append_left, get_or_push, length-append}
-use Rattle.gpu_descriptor.specs.Caller.Sets.{items_of}
-use Rattle.gpu_descriptor.specs.Model.Agreement.{count_of}
-use Rattle.gpu_descriptor_types.specs.Meaning.{IsOfLayout}
-use Rattle.gpu_descriptor.proofs.callers.HeldSets.{count_parts}
-use Rattle.descriptor_table.specs.Sets.{sets_in}
-use Rattle.descriptor_table.specs.Tables.{HasRoom, renewed, slots_of}
-use Rattle.descriptor_table.proofs.Chains.{live_no_list}
-use Rattle.descriptor_manager.specs.Stores.{ComesOf}
+use Rattle.descriptor_manager.proofs.Common.{◌≡◌, ◌+◌, ◌∙◌, [], ◌∷◌, Option, length, slice_index_or, refl, ap, subst, arith, rules, get_or_append_left, get_or_push, length-append, items_of, count_of, IsOfLayout, count_parts, sets_in, HasRoom, renewed, slots_of, live_no_list, ComesOf}
 use Rattle.descriptor_manager.proofs.Adding.{added_here}
 use Rattle.descriptor_manager.proofs.Given.{put_count, put_many, renewed_sets}
 use Rattle.descriptor_manager.proofs.Growing.{grow_new}

@@ -1,11 +1,4 @@
-use Rattle.std.proofs.lemmas.Grind.{common_steps}
-use Rattle.std.proofs.Common.{◌≡◌, ◌<◌, length, refl, ap, ◌∙◌, rules, arith, length-set}
-use Rattle.descriptor_table.specs.Slots.{is_kept_of, slot_at}
-use Rattle.descriptor_table.specs.Tables.{renewed, slots_of}
-use Rattle.descriptor_table.specs.declared.handle.SetHandle.{SetHandle}
-use Rattle.descriptor_table.proofs.Listed.{test_within}
-use Rattle.descriptor_table.proofs.Renewing.{room_stays}
-use Rattle.descriptor_manager.specs.Stores.{slots_in}
+use Rattle.descriptor_manager.proofs.Common.{common_steps, ◌≡◌, ◌<◌, length, refl, ap, ◌∙◌, rules, arith, length-set, is_kept_of, slot_at, renewed, slots_of, SetHandle, test_within, room_stays, slots_in}
 use Rattle.descriptor_manager.proofs.Given.{accounted_as, exact_as, renewed_sets}
 use Rattle.descriptor_manager.proofs.Handing.{kept_fewer, kept_one, usable_stays}
 use Rattle.descriptor_manager.proofs.store.Store.hold_next.Given.{Over}

@@ -1,14 +1,6 @@
-use Rattle.std.proofs.lemmas.Grind.{common_steps}
-use Rattle.std.proofs.Common.{◌≡◌, [], ◌∙◌, map, ap, arith}
+use Rattle.descriptor_manager.proofs.Common.{common_steps, ◌≡◌, [], ◌∙◌, map, ap, arith, items_of, named_row, state_of, count_of, books_of, sets_in, slot_at, is_placed}
 use Rattle.gpu_descriptor.specs.Caller.Others.{others_of}
-use Rattle.gpu_descriptor.specs.Caller.Sets.{items_of}
-use Rattle.gpu_descriptor.specs.Caller.States.{named_row, state_of}
-use Rattle.gpu_descriptor.specs.Model.Agreement.{count_of}
-use Rattle.gpu_descriptor.specs.Model.Books.{books_of}
 use Rattle.gpu_descriptor.proofs.release.Places.{none_out}
-use Rattle.descriptor_table.specs.Sets.{sets_in}
-use Rattle.descriptor_table.specs.Slots.{slot_at}
-use Rattle.descriptor_manager.specs.Stores.{is_placed}
 use Rattle.descriptor_manager.proofs.store.Store.new.Goals as goal
 
 pub invariant_of-result-clause-agree : goal.invariant_of-result-clause-agree

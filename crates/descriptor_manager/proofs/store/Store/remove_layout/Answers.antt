@@ -1,12 +1,5 @@
-use Rattle.std.proofs.Common.{true, ◌≡◌, ◌∙◌, ap, sym, subst, arith, rules, List}
-use Rattle.gpu_descriptor.specs.Caller.Sets.{items_of}
-use Rattle.gpu_descriptor.specs.Model.Agreement.{count_of}
-use Rattle.gpu_descriptor.specs.declared.set.DescriptorSet.{DescriptorSet}
-use Rattle.descriptor_table.specs.Sets.{sets_in}
+use Rattle.descriptor_manager.proofs.Common.{true, ◌≡◌, ◌∙◌, ap, sym, subst, arith, rules, List, items_of, count_of, DescriptorSet, sets_in, is_kept_of, Settings, Turns, Becomes, removed_as, slots_of, vacated, side_of, slots_in}
 use Rattle.descriptor_table.specs.Slots as table
-use Rattle.descriptor_table.specs.Slots.{is_kept_of}
-use Rattle.descriptor_table.specs.Tables.{Settings, Turns, Becomes, removed_as, slots_of, vacated}
-use Rattle.descriptor_manager.specs.Stores.{side_of, slots_in}
 use Rattle.descriptor_manager.proofs.Back.{kept_out}
 use Rattle.descriptor_manager.proofs.Following.{follow_turns, follows_vacated}
 use Rattle.descriptor_manager.proofs.Joining.{layout_stays}

@@ -1,8 +1,5 @@
-use Rattle.std.proofs.lemmas.Grind.{common_steps}
-use Rattle.std.proofs.Common.{◌∙◌, ◌+◌, ap, subst, arith, rules}
-use Rattle.descriptor_table.specs.Sets.{sets_in}
-use Rattle.descriptor_table.specs.Slots.{goes, slots_in}
-use Rattle.descriptor_table.specs.Tables.{Turns, Becomes, is_kept, slots_of, vacated, MayBecome}
+use Rattle.descriptor_manager.proofs.Common.{common_steps, ◌∙◌, ◌+◌, ap, subst, arith, rules, sets_in, goes, Turns, Becomes, is_kept, slots_of, vacated, MayBecome}
+use Rattle.descriptor_table.specs.Slots.{slots_in}
 use Rattle.descriptor_manager.proofs.Given.{accounted_as, exact_as}
 use Rattle.descriptor_manager.proofs.Back.{given_kept, left, turned_sets}
 use Rattle.descriptor_manager.proofs.Following.{follow_turns, follows_vacated, none_goes}

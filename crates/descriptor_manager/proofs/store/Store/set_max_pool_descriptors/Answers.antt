@@ -1,4 +1,4 @@
-use Rattle.std.proofs.Common.{ap}
+use Rattle.descriptor_manager.proofs.Common.{ap}
 use Rattle.gpu_descriptor.specs.Caller.Others.{others_of}
 use Rattle.descriptor_manager.proofs.store.Store.set_max_pool_descriptors.Goals as goal
 

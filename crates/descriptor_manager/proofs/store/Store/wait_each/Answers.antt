@@ -1,7 +1,4 @@
-use Rattle.std.proofs.Common.{refl, rules}
-use Rattle.descriptor_table.specs.Tables.{Becomes, TurnEach, slots_of, used_for}
-use Rattle.descriptor_table.specs.declared.slot.Use.TheVariants.{Waits}
-use Rattle.descriptor_table.proofs.Holding.{apart_once, has_taken}
+use Rattle.descriptor_manager.proofs.Common.{refl, rules, Becomes, TurnEach, slots_of, used_for, Waits, apart_once, has_taken}
 use Rattle.descriptor_manager.proofs.Given.{accounted_as, exact_as}
 use Rattle.descriptor_manager.proofs.Following.{follow_each, follows_waits}
 use Rattle.descriptor_manager.proofs.Listed.{each_sets, waited}

@@ -1,4 +1,4 @@
-use Rattle.descriptor_table.specs.Giving.{is_of}
+use Rattle.descriptor_table.proofs.Common.{is_of}
 use Rattle.descriptor_table.proofs.Leaving.{progress}
 use Rattle.descriptor_table.proofs.giving.GivingIterator.next.Goals as goal
 

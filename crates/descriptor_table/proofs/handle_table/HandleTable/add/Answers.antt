@@ -1,8 +1,4 @@
-use Rattle.std.proofs.lemmas.Grind.{common_steps}
-use Rattle.std.proofs.Common.{[], ◌∷◌, ◌++◌, arith}
-use Rattle.std.proofs.Math.Seq.{get_or-append_seam, set-append_seam}
-use Rattle.descriptor_table.specs.Handles.{values_of}
-use Rattle.descriptor_table.specs.Slots.{filled, no_slot}
+use Rattle.descriptor_table.proofs.Common.{common_steps, [], ◌∷◌, ◌++◌, arith, get_or-append_seam, set-append_seam, values_of, filled, no_slot}
 use Rattle.descriptor_table.proofs.Growing.{puts_end}
 use Rattle.descriptor_table.proofs.handle_table.HandleTable.add.Goals as goal
 

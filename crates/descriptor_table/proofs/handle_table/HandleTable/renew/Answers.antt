@@ -1,9 +1,4 @@
-use Rattle.std.proofs.lemmas.Grind.{common_steps}
-use Rattle.std.proofs.Common.{refl, set, arith}
-use Rattle.std.proofs.lemmas.List.{set-set}
-use Rattle.descriptor_table.specs.Handles.{values_of}
-use Rattle.descriptor_table.specs.Slots.{filled, slot_at}
-use Rattle.descriptor_table.specs.Tables.{is_usable}
+use Rattle.descriptor_table.proofs.Common.{common_steps, refl, set, arith, set-set, values_of, filled, slot_at, is_usable}
 use Rattle.descriptor_table.proofs.Listed.{slot_set, test_within}
 use Rattle.descriptor_table.proofs.Renewing.{puts_there}
 use Rattle.descriptor_table.proofs.handle_table.HandleTable.renew.Goals as goal

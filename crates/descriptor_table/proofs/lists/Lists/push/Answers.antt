@@ -1,5 +1,4 @@
-use Rattle.std.proofs.Common.{◌+◌, ap, refl, set}
-use Rattle.descriptor_table.specs.declared.slot.Chain.{Chain}
+use Rattle.descriptor_table.proofs.Common.{◌+◌, ap, refl, set, Chain}
 use Rattle.descriptor_table.proofs.Relisted.{regrouped}
 use Rattle.descriptor_table.proofs.lists.Lists.push.Goals as goal
 

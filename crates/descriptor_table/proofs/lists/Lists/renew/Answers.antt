@@ -1,6 +1,4 @@
-use Rattle.std.proofs.Common.{◌∷◌, ap, if◌then◌else◌, sym}
-use Rattle.std.proofs.Math.Seq.{map-set_same}
-use Rattle.descriptor_table.specs.Slots.{chain_at, shown}
+use Rattle.descriptor_table.proofs.Common.{◌∷◌, ap, if◌then◌else◌, sym, map-set_same, chain_at, shown}
 use Rattle.descriptor_table.proofs.lists.Lists.renew.Goals as goal
 
 pub returns-clause-chains : goal.returns-clause-chains

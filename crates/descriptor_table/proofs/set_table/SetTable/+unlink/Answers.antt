@@ -1,11 +1,4 @@
-use Rattle.std.proofs.lemmas.Grind.{common_steps}
-use Rattle.std.proofs.Common.{◌≡◌, ◌≢◌, ◌∙◌, ◌+◌, ◌<◌, ℕ, true, length, List, refl, sym, ap, arith, rules}
-use Rattle.std.proofs.lemmas.List.{length-set}
-use Rattle.std.proofs.lemmas.Bool.{cases_eq}
-use Rattle.descriptor_table.specs.Slots.{Slot, count, is_kept_of, slot_at}
-use Rattle.descriptor_table.specs.Tables.{Settings, Picks, slots_of, used_for}
-use Rattle.descriptor_table.specs.declared.giving.Group.TheVariants.{KeptOf}
-use Rattle.descriptor_table.specs.declared.slot.Use.TheVariants.{Kept, Taken}
+use Rattle.descriptor_table.proofs.Common.{common_steps, ◌≡◌, ◌≢◌, ◌∙◌, ◌+◌, ◌<◌, ℕ, true, length, List, refl, sym, ap, arith, rules, length-set, cases_eq, Slot, count, is_kept_of, slot_at, Settings, Picks, slots_of, used_for, KeptOf, Kept, Taken}
 use Rattle.descriptor_table.proofs.Chains.{taken_no_list}
 use Rattle.descriptor_table.proofs.Counts.{group_has, some_count, bit, chain_counts, count_set}
 use Rattle.descriptor_table.proofs.Holding.{all_same, used_same}

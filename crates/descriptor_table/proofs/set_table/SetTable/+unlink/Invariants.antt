@@ -1,5 +1,4 @@
-use Rattle.descriptor_table.specs.Slots.{count, is_kept_of}
-use Rattle.descriptor_table.specs.Tables.{slots_of}
+use Rattle.descriptor_table.proofs.Common.{count, is_kept_of, slots_of}
 use Rattle.descriptor_table.proofs.set_table.SetTable.+unlink.Given as goal
 
 -- how many sets of the layout are kept

@@ -1,8 +1,4 @@
-use Rattle.std.proofs.Common.{◌+◌, refl, sym, subst}
-use Rattle.descriptor_table.specs.Slots.{AreCounted, AreSound}
-use Rattle.descriptor_table.specs.Tables.{layouts_of, removed_of, slots_of}
-use Rattle.descriptor_table.specs.Lists.{chains_in}
-use Rattle.descriptor_table.specs.Users.{users_in}
+use Rattle.descriptor_table.proofs.Common.{◌+◌, refl, sym, subst, AreCounted, AreSound, layouts_of, removed_of, slots_of, chains_in, users_in}
 use Rattle.descriptor_table.proofs.Entries.{in_place}
 use Rattle.descriptor_table.proofs.Numbers.{added_counted}
 use Rattle.descriptor_table.proofs.Sound.{layout_sound}

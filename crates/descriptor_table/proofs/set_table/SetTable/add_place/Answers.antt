@@ -1,10 +1,4 @@
-use Rattle.std.proofs.lemmas.Grind.{common_steps}
-use Rattle.std.proofs.Common.{refl, arith}
-use Rattle.std.proofs.Math.Seq.{get_or-append_seam, set-append_seam}
-use Rattle.descriptor_table.specs.Slots.{no_slot, slots_in}
-use Rattle.descriptor_table.specs.Tables.{layouts_of}
-use Rattle.descriptor_table.specs.Lists.{chains_in}
-use Rattle.descriptor_table.specs.declared.slot.Use.TheVariants.{Taken}
+use Rattle.descriptor_table.proofs.Common.{common_steps, refl, arith, get_or-append_seam, set-append_seam, no_slot, slots_in, layouts_of, chains_in, Taken}
 use Rattle.descriptor_table.proofs.Chains.{unheld}
 use Rattle.descriptor_table.proofs.Numbers.{grown_counted}
 use Rattle.descriptor_table.proofs.Sound.{push_sound}

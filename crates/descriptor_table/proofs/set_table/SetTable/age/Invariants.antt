@@ -1,6 +1,4 @@
-use Rattle.std.proofs.Common.{◌≡◌, ◌<◌, ◌≤◌, ℕ, length}
-use Rattle.descriptor_table.specs.Slots.{slot_at}
-use Rattle.descriptor_table.specs.Tables.{Stays, aged, slots_of}
+use Rattle.descriptor_table.proofs.Common.{◌≡◌, ◌<◌, ◌≤◌, ℕ, length, slot_at, Stays, aged, slots_of}
 use Rattle.descriptor_table.proofs.set_table.SetTable.age.Given as goal
 
 -- the first slots have lost the flag

@@ -1,5 +1,4 @@
-use Rattle.std.proofs.Common.{refl}
-use Rattle.descriptor_table.specs.Slots.{slots_in}
+use Rattle.descriptor_table.proofs.Common.{refl, slots_in}
 use Rattle.descriptor_table.proofs.Numbers.{slot_counted}
 use Rattle.descriptor_table.proofs.set_table.SetTable.age_at.Goals as goal
 

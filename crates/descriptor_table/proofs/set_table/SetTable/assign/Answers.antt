@@ -1,8 +1,4 @@
-use Rattle.std.proofs.lemmas.Grind.{common_steps}
-use Rattle.std.proofs.Common.{refl, arith}
-use Rattle.descriptor_table.specs.Slots.{slots_in}
-use Rattle.descriptor_table.specs.Tables.{layouts_of}
-use Rattle.descriptor_table.specs.Lists.{chains_in}
+use Rattle.descriptor_table.proofs.Common.{common_steps, refl, arith, slots_in, layouts_of, chains_in}
 use Rattle.descriptor_table.proofs.Chains.{nowhere_out}
 use Rattle.descriptor_table.proofs.Numbers.{slot_counted}
 use Rattle.descriptor_table.proofs.Sound.{out_sound}

@@ -1,6 +1,4 @@
-use Rattle.std.proofs.Common.{◌∙◌, ap}
-use Rattle.descriptor_table.specs.Giving.{list_of}
-use Rattle.descriptor_table.specs.declared.slot.Chain.{Chain}
+use Rattle.descriptor_table.proofs.Common.{◌∙◌, ap, list_of, Chain}
 use Rattle.descriptor_table.proofs.Counts.{chain_counts}
 use Rattle.descriptor_table.proofs.set_table.SetTable.count.Goals as goal
 

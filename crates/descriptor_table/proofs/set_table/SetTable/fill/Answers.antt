@@ -1,10 +1,4 @@
-use Rattle.std.proofs.Common.{ap, is_some, refl, sym, subst, rules, ◌+◌, arith}
-use Rattle.std.proofs.lemmas.List.{set-set}
-use Rattle.std.specs.VecDeque.{deque_capacity}
-use Rattle.descriptor_table.specs.Lists.{chains_in}
-use Rattle.descriptor_table.specs.Slots.{AreCounted, AreSound, Slot, slot_at, slots_in}
-use Rattle.descriptor_table.specs.Tables.{layouts_of, removed_of, slots_of}
-use Rattle.descriptor_table.specs.Users.{users_in}
+use Rattle.descriptor_table.proofs.Common.{ap, is_some, refl, sym, subst, rules, ◌+◌, arith, set-set, deque_capacity, chains_in, AreCounted, AreSound, Slot, slot_at, slots_in, layouts_of, removed_of, slots_of, users_in}
 use Rattle.descriptor_table.proofs.Chains.{listed_out}
 use Rattle.descriptor_table.proofs.Heads.{first, left_sound, more, still}
 use Rattle.descriptor_table.proofs.Listed.{slot_set}

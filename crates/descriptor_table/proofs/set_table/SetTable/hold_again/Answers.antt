@@ -1,8 +1,4 @@
-use Rattle.std.proofs.lemmas.Grind.{common_steps}
-use Rattle.std.proofs.Common.{◌∙◌, ◌<◌, ℕ, length, ap, arith}
-use Rattle.descriptor_table.specs.Tables.{At, Changes, slots_of, used_for}
-use Rattle.descriptor_table.specs.declared.set_table.SetTable.{SetTable}
-use Rattle.descriptor_table.specs.declared.slot.Use.TheVariants.{Held, Taken}
+use Rattle.descriptor_table.proofs.Common.{common_steps, ◌∙◌, ◌<◌, ℕ, length, ap, arith, At, Changes, slots_of, used_for, SetTable, Held, Taken}
 use Rattle.descriptor_table.proofs.Listed.{with_use}
 use Rattle.descriptor_table.proofs.Turning.{stays_more, use_again}
 use Rattle.descriptor_table.proofs.set_table.SetTable.hold_again.Goals as goal

@@ -1,10 +1,4 @@
-use Rattle.std.proofs.Common.{◌≡◌, ◌+◌, ◌<◌, true, length, refl, sym, rules, arith}
-use Rattle.std.specs.VecDeque.{deque_capacity}
-use Rattle.descriptor_table.specs.Slots.{AreSound, chain_at, is_kept_of, slot_at, slots_in}
-use Rattle.descriptor_table.specs.Tables.{slots_of}
-use Rattle.descriptor_table.specs.Lists.{chains_in}
-use Rattle.descriptor_table.specs.declared.giving.Group.TheVariants.{KeptOf}
-use Rattle.descriptor_table.specs.declared.slot.Chain.{Chain}
+use Rattle.descriptor_table.proofs.Common.{◌≡◌, ◌+◌, ◌<◌, true, length, refl, sym, rules, arith, deque_capacity, AreSound, chain_at, is_kept_of, slot_at, slots_in, slots_of, chains_in, KeptOf, Chain}
 use Rattle.descriptor_table.proofs.Chains.{listed_out}
 use Rattle.descriptor_table.proofs.Counts.{chain_short, group_has}
 use Rattle.descriptor_table.proofs.Entries.{in_place}

@@ -1,8 +1,4 @@
-use Rattle.std.proofs.Common.{◌<◌, ℕ, inl, take, refl, sym, ap, subst, ◌∙◌}
-use Rattle.std.proofs.lemmas.Bool.{true≢false}
-use Rattle.descriptor_table.specs.Slots.{Slot, slot_at}
-use Rattle.descriptor_table.specs.Tables.{Becomes, CanBeHeld, Settings, TurnEach, is_held_use, removed_of, stays, place_at, slots_of, used_for}
-use Rattle.descriptor_table.specs.declared.slot.Use.TheVariants.{Held, Kept}
+use Rattle.descriptor_table.proofs.Common.{◌<◌, ℕ, inl, take, refl, sym, ap, subst, ◌∙◌, true≢false, Slot, slot_at, Becomes, CanBeHeld, Settings, TurnEach, is_held_use, removed_of, stays, place_at, slots_of, used_for, Held, Kept}
 use Rattle.descriptor_table.proofs.Holding.{can_turn, turned_back, turned_each}
 use Rattle.descriptor_table.proofs.Named.{is_named, names_all, names_end, names_more, names_none}
 use Rattle.descriptor_table.proofs.Turning.{kept_only, stays_more, stays_same}

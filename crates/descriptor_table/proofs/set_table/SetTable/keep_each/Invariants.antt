@@ -1,4 +1,4 @@
-use Rattle.descriptor_table.specs.Tables.{Stays, removed_of, slots_of}
+use Rattle.descriptor_table.proofs.Common.{Stays, removed_of, slots_of}
 use Rattle.descriptor_table.proofs.Named.{TurnedNames}
 use Rattle.descriptor_table.proofs.Turning.{IsKept}
 use Rattle.descriptor_table.proofs.set_table.SetTable.keep_each.Given as goal

@@ -1,7 +1,4 @@
-use Rattle.std.proofs.lemmas.Grind.{common_steps}
-use Rattle.std.proofs.Common.{◌≡◌, ◌+◌, arith, rules}
-use Rattle.descriptor_table.specs.Slots.{count}
-use Rattle.descriptor_table.specs.Tables.{layouts_of, slots_of}
+use Rattle.descriptor_table.proofs.Common.{common_steps, ◌≡◌, ◌+◌, arith, rules, count, layouts_of, slots_of}
 use Rattle.descriptor_table.proofs.Counts.{count_few}
 use Rattle.descriptor_table.proofs.Totals.{kept_before, kept_end, kept_start, kept_step}
 use Rattle.descriptor_table.proofs.set_table.SetTable.kept_total.Goals.{After-from-total}

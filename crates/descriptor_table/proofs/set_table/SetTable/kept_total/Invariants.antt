@@ -1,6 +1,4 @@
-use Rattle.std.proofs.Common.{◌≡◌}
-use Rattle.descriptor_table.specs.Slots.{count}
-use Rattle.descriptor_table.specs.Tables.{slots_of}
+use Rattle.descriptor_table.proofs.Common.{◌≡◌, count, slots_of}
 use Rattle.descriptor_table.proofs.Totals.{kept_before}
 use Rattle.descriptor_table.proofs.set_table.SetTable.kept_total.Given as goal
 

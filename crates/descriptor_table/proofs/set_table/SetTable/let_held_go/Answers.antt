@@ -1,7 +1,4 @@
-use Rattle.std.proofs.lemmas.Bool.{cases_eq}
-use Rattle.descriptor_table.specs.declared.slot.Use.TheVariants.{Going}
-use Rattle.std.proofs.Common.{rules}
-use Rattle.descriptor_table.specs.Tables.{holds, slots_of}
+use Rattle.descriptor_table.proofs.Common.{cases_eq, Going, rules, holds, slots_of}
 use Rattle.descriptor_table.proofs.Turning.{stays_more, use_one}
 use Rattle.descriptor_table.proofs.set_table.SetTable.let_held_go.Goals as goal
 

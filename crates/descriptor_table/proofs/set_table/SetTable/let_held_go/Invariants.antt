@@ -1,8 +1,5 @@
-use Rattle.std.proofs.Common.{◌≡◌, ◌<◌, ℕ, false}
-use Rattle.descriptor_table.specs.Slots.{slot_at}
-use Rattle.descriptor_table.specs.Tables.{Becomes, Stays, holds, slots_of, used_for}
+use Rattle.descriptor_table.proofs.Common.{◌≡◌, ◌<◌, ℕ, false, slot_at, Becomes, Stays, holds, slots_of, used_for, Going}
 use Rattle.descriptor_table.proofs.Turning.{Turning}
-use Rattle.descriptor_table.specs.declared.slot.Use.TheVariants.{Going}
 use Rattle.descriptor_table.proofs.set_table.SetTable.let_held_go.Given as goal
 
 -- the held sets of the first slots go

@@ -1,7 +1,4 @@
-use Rattle.std.proofs.Common.{◌∙◌, refl, sym, arith}
-use Rattle.descriptor_table.specs.Slots.{waits}
-use Rattle.descriptor_table.specs.Tables.{Picks, slots_of, used_for}
-use Rattle.descriptor_table.specs.declared.slot.Use.TheVariants.{Taken}
+use Rattle.descriptor_table.proofs.Common.{◌∙◌, refl, sym, arith, waits, Picks, slots_of, used_for, Taken}
 use Rattle.descriptor_table.proofs.Turning.{go_less, go_step, stays_more}
 use Rattle.descriptor_table.proofs.Waiting.{all_due}
 use Rattle.descriptor_table.proofs.set_table.SetTable.let_waiting_go.Goals.{After-let_go}

@@ -1,7 +1,5 @@
-use Rattle.descriptor_table.specs.Slots.{count, waits}
-use Rattle.descriptor_table.specs.Tables.{Becomes, Stays, slots_of, used_for}
+use Rattle.descriptor_table.proofs.Common.{count, waits, Becomes, Stays, slots_of, used_for, Going}
 use Rattle.descriptor_table.proofs.Turning.{Turning}
-use Rattle.descriptor_table.specs.declared.slot.Use.TheVariants.{Going}
 use Rattle.descriptor_table.proofs.set_table.SetTable.let_waiting_go.Given as goal
 
 -- some of the sets that wait go

@@ -1,7 +1,4 @@
-use Rattle.std.proofs.Common.{◌∙◌, refl, ap, set, arith}
-use Rattle.descriptor_table.specs.Giving.{list_of}
-use Rattle.descriptor_table.specs.Slots.{AreSound, nexts_in, slot_at, slots_in}
-use Rattle.descriptor_table.specs.Tables.{slots_of, used_for}
+use Rattle.descriptor_table.proofs.Common.{◌∙◌, refl, ap, set, arith, list_of, AreSound, nexts_in, slot_at, slots_in, slots_of, used_for}
 use Rattle.descriptor_table.proofs.Counts.{chain_counts}
 use Rattle.descriptor_table.proofs.Entries.{in_place}
 use Rattle.descriptor_table.proofs.Numbers.{list_counted}

@@ -1,7 +1,4 @@
-use Rattle.std.proofs.Common.{refl, arith}
-use Rattle.descriptor_table.specs.Slots.{slot_at, slots_in}
-use Rattle.descriptor_table.specs.Tables.{slots_of, used_for}
-use Rattle.descriptor_table.specs.declared.slot.Use.TheVariants.{Going}
+use Rattle.descriptor_table.proofs.Common.{refl, arith, slot_at, slots_in, slots_of, used_for, Going}
 use Rattle.descriptor_table.proofs.Numbers.{slot_counted}
 use Rattle.descriptor_table.proofs.Writing.{after_sound, few_more}
 use Rattle.descriptor_table.proofs.set_table.SetTable.link_after.Goals as goal

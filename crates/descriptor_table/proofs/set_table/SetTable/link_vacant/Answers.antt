@@ -1,9 +1,4 @@
-use Rattle.std.proofs.lemmas.Grind.{common_steps}
-use Rattle.std.proofs.Common.{◌≡◌, refl, subst, sym, true, arith}
-use Rattle.descriptor_table.specs.Lists.{chains_in}
-use Rattle.descriptor_table.specs.Slots.{AreSound, IsNowhere, is_in, slot_at, slots_in}
-use Rattle.descriptor_table.specs.Tables.{layouts_of, slots_of, used_for}
-use Rattle.descriptor_table.specs.declared.slot.Use.TheVariants.{Vacant}
+use Rattle.descriptor_table.proofs.Common.{common_steps, ◌≡◌, refl, subst, sym, true, arith, chains_in, AreSound, IsNowhere, is_in, slot_at, slots_in, layouts_of, slots_of, used_for, Vacant}
 use Rattle.descriptor_table.proofs.Numbers.{slot_counted}
 use Rattle.descriptor_table.proofs.Writing.{few_more, front_sound}
 use Rattle.descriptor_table.proofs.set_table.SetTable.link_vacant.Goals.{After-link}

@@ -1,9 +1,5 @@
-use Rattle.std.proofs.lemmas.Grind.{common_steps}
-use Rattle.std.proofs.Common.{◌≡◌, ◌+◌, ◌<◌, ◌≤◌, Bool, ℕ, arith, if◌then◌else◌, nat_lt, is_some, rules}
+use Rattle.descriptor_table.proofs.Common.{common_steps, ◌≡◌, ◌+◌, ◌<◌, ◌≤◌, Bool, ℕ, arith, if◌then◌else◌, nat_lt, is_some, rules, Slot, chain_at, slot_at, layouts_of, may_stay, removed_of, slots_of, SetTable}
 use Rattle.std.specs.Bool.{then_some}
-use Rattle.descriptor_table.specs.Slots.{Slot, chain_at, slot_at}
-use Rattle.descriptor_table.specs.Tables.{layouts_of, may_stay, removed_of, slots_of}
-use Rattle.descriptor_table.specs.declared.set_table.SetTable.{SetTable}
 use Rattle.descriptor_table.proofs.Counts.{there_counts}
 use Rattle.descriptor_table.proofs.set_table.SetTable.list_of_freed.Goals as goal
 

@@ -1,6 +1,4 @@
-use Rattle.std.proofs.Common.{◌≡◌, ℕ, zero, suc, [], ◌∷◌, length, refl, sym, ap, ◌∙◌, arith}
-use Rattle.std.proofs.lemmas.Grind.{common_steps}
-use Rattle.descriptor_table.specs.Slots.{chain_at}
+use Rattle.descriptor_table.proofs.Common.{◌≡◌, ℕ, zero, suc, [], ◌∷◌, length, refl, sym, ap, ◌∙◌, arith, common_steps, chain_at}
 use Rattle.descriptor_table.proofs.set_table.SetTable.new.Goals as goal
 
 pub invariant_of-result-clause-counted : goal.invariant_of-result-clause-counted

@@ -1,9 +1,4 @@
-use Rattle.std.proofs.Common.{◌≡◌, ◌-◌, ◌<◌, true, length, refl, set, subst, sym, rules}
-use Rattle.descriptor_table.specs.Giving.{is_of, list_of}
-use Rattle.descriptor_table.specs.Slots.{AreSound, count, slot_at, slots_in}
-use Rattle.descriptor_table.specs.Tables.{layouts_of, slots_of}
-use Rattle.descriptor_table.specs.Lists.{chains_in}
-use Rattle.descriptor_table.specs.declared.slot.Chain.{Chain}
+use Rattle.descriptor_table.proofs.Common.{◌≡◌, ◌-◌, ◌<◌, true, length, refl, set, subst, sym, rules, is_of, list_of, AreSound, count, slot_at, slots_in, layouts_of, slots_of, chains_in, Chain}
 use Rattle.descriptor_table.proofs.Counts.{chain_short, group_has, some_of}
 use Rattle.descriptor_table.proofs.Entries.{in_place}
 use Rattle.descriptor_table.proofs.Heads.{first, taken_sound}

@@ -1,9 +1,4 @@
-use Rattle.std.proofs.lemmas.Grind.{common_steps}
-use Rattle.std.proofs.Common.{refl, arith, rules}
-use Rattle.descriptor_table.specs.Slots.{slot_at, slots_in}
-use Rattle.descriptor_table.specs.Tables.{layouts_of, used_for}
-use Rattle.descriptor_table.specs.Lists.{chains_in}
-use Rattle.descriptor_table.specs.declared.slot.Use.TheVariants.{Taken}
+use Rattle.descriptor_table.proofs.Common.{common_steps, refl, arith, rules, slot_at, slots_in, layouts_of, used_for, chains_in, Taken}
 use Rattle.descriptor_table.proofs.Chains.{unheld}
 use Rattle.descriptor_table.proofs.Numbers.{slot_counted}
 use Rattle.descriptor_table.proofs.Sound.{leave_sound, listed}

@@ -1,7 +1,4 @@
-use Rattle.std.proofs.lemmas.Grind.{common_steps}
-use Rattle.std.proofs.Common.{◌≡◌, ◌+◌, true, sym, ap, subst, ◌∙◌, arith}
-use Rattle.descriptor_table.specs.Slots.{filled, slot_at}
-use Rattle.descriptor_table.specs.Tables.{At, HasLayout, HasRoom, Settings, is_usable, renewed, slots_of}
+use Rattle.descriptor_table.proofs.Common.{common_steps, ◌≡◌, ◌+◌, true, sym, ap, subst, ◌∙◌, arith, filled, slot_at, At, HasLayout, HasRoom, Settings, is_usable, renewed, slots_of}
 use Rattle.descriptor_table.proofs.Chains.{live_no_list}
 use Rattle.descriptor_table.proofs.Counts.{vacant_count}
 use Rattle.descriptor_table.proofs.Growing.{count_grown, puts_last, room_grown}

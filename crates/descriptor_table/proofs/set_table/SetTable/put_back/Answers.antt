@@ -1,6 +1,4 @@
-use Rattle.std.proofs.Common.{◌≡◌, ◌+◌, ◌-◌, ◌<◌, length, ap, subst, ◌∙◌, arith}
-use Rattle.descriptor_table.specs.Slots.{slot_at}
-use Rattle.descriptor_table.specs.Tables.{CanBeHeld, place_at, slots_of}
+use Rattle.descriptor_table.proofs.Common.{◌≡◌, ◌+◌, ◌-◌, ◌<◌, length, ap, subst, ◌∙◌, arith, slot_at, CanBeHeld, place_at, slots_of}
 use Rattle.descriptor_table.proofs.Holding.{again_all, again_can, again_more}
 use Rattle.descriptor_table.proofs.Names.{handles_long, place_read}
 use Rattle.descriptor_table.proofs.Turning.{stays_more}

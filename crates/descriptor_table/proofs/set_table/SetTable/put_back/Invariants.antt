@@ -1,5 +1,4 @@
-use Rattle.std.proofs.Common.{◌-◌}
-use Rattle.descriptor_table.specs.Tables.{Stays, slots_of}
+use Rattle.descriptor_table.proofs.Common.{◌-◌, Stays, slots_of}
 use Rattle.descriptor_table.proofs.Holding.{AreAgain}
 use Rattle.descriptor_table.proofs.set_table.SetTable.put_back.Given as goal
 

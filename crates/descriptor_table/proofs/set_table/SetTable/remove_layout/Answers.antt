@@ -1,10 +1,5 @@
-use Rattle.std.proofs.Common.{true, ◌+◌, ◌∙◌, refl, subst, sym, arith}
-use Rattle.std.proofs.lemmas.List.{length-map}
-use Rattle.descriptor_table.specs.Slots.{AreCounted, AreSound, is_kept_of, shown}
-use Rattle.descriptor_table.specs.Tables.{layouts_of, removed_of, removed_as, slots_of}
-use Rattle.descriptor_table.specs.Lists.{chains_in}
+use Rattle.descriptor_table.proofs.Common.{true, ◌+◌, ◌∙◌, refl, subst, sym, arith, length-map, AreCounted, AreSound, is_kept_of, shown, layouts_of, removed_of, removed_as, slots_of, chains_in, users_in}
 use Rattle.descriptor_table.proofs.Counts.{chain_counts, none_count}
-use Rattle.descriptor_table.specs.Users.{users_in}
 use Rattle.descriptor_table.proofs.Entries.{in_place}
 use Rattle.descriptor_table.proofs.Numbers.{removed_counted, there_user}
 use Rattle.descriptor_table.proofs.Sound.{emptied_sound}

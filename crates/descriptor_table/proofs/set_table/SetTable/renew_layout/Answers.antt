@@ -1,8 +1,5 @@
-use Rattle.std.proofs.Common.{false, refl, subst, sym}
-use Rattle.descriptor_table.specs.Slots.{AreCounted, AreSound, is_set_of}
-use Rattle.descriptor_table.specs.Tables.{layouts_of, removed_of, removed_as, slots_of}
+use Rattle.descriptor_table.proofs.Common.{false, refl, subst, sym, AreCounted, AreSound, is_set_of, layouts_of, removed_of, removed_as, slots_of, users_in}
 use Rattle.descriptor_table.proofs.Counts.{count_none}
-use Rattle.descriptor_table.specs.Users.{users_in}
 use Rattle.descriptor_table.proofs.Entries.{in_place}
 use Rattle.descriptor_table.proofs.Numbers.{free_is, renewed_counted}
 use Rattle.descriptor_table.proofs.set_table.SetTable.renew_layout.Goals as goal

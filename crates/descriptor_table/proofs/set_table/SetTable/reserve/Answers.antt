@@ -1,5 +1,4 @@
-use Rattle.std.proofs.lemmas.Grind.{common_steps}
-use Rattle.std.proofs.Common.{arith}
+use Rattle.descriptor_table.proofs.Common.{common_steps, arith}
 use Rattle.descriptor_table.proofs.Counts.{vacant_count}
 use Rattle.descriptor_table.proofs.set_table.SetTable.reserve.Goals as goal
 

@@ -1,9 +1,4 @@
-use Rattle.std.proofs.lemmas.Grind.{common_steps}
-use Rattle.std.proofs.Common.{◌∙◌, ◌<◌, refl, subst, sym, ap, arith}
-use Rattle.descriptor_table.specs.Slots.{AreCounted, Slot, slot_at, slots_in}
-use Rattle.descriptor_table.specs.Tables.{layouts_of, removed_of, slots_of, vacated}
-use Rattle.descriptor_table.specs.Lists.{chains_in}
-use Rattle.descriptor_table.specs.Users.{users_in}
+use Rattle.descriptor_table.proofs.Common.{common_steps, ◌∙◌, ◌<◌, refl, subst, sym, ap, arith, AreCounted, Slot, slot_at, slots_in, layouts_of, removed_of, slots_of, vacated, chains_in, users_in}
 use Rattle.descriptor_table.proofs.Chains.{taken_no_list, taken_out}
 use Rattle.descriptor_table.proofs.Numbers.{left_counted, set_user}
 use Rattle.descriptor_table.proofs.Sound.{out_sound}

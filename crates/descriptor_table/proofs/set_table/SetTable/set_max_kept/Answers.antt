@@ -1,7 +1,4 @@
-use Rattle.std.proofs.Common.{◌≡◌, ◌+◌, ◌-◌, ◌≤◌, subst, arith}
-use Rattle.descriptor_table.specs.Slots.{count, is_in, nexts_in}
-use Rattle.descriptor_table.specs.Tables.{slots_of}
-use Rattle.descriptor_table.specs.Lists.{chains_in}
+use Rattle.descriptor_table.proofs.Common.{◌≡◌, ◌+◌, ◌-◌, ◌≤◌, subst, arith, count, is_in, nexts_in, slots_of, chains_in}
 use Rattle.descriptor_table.proofs.Counts.{chain_count}
 use Rattle.descriptor_table.proofs.set_table.SetTable.set_max_kept.Goals as goal
 

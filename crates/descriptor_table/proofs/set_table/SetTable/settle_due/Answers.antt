@@ -1,11 +1,7 @@
-use Rattle.std.proofs.lemmas.Grind.{common_steps}
-use Rattle.std.proofs.Common.{◌≡◌, arith}
-use Rattle.descriptor_table.specs.Slots.{is_due, slot_at}
-use Rattle.descriptor_table.specs.Tables.{IsBack, removed_of, next_use, slots_of, used_for}
+use Rattle.descriptor_table.proofs.Common.{common_steps, ◌≡◌, arith, is_due, slot_at, IsBack, removed_of, next_use, slots_of, used_for, Going, Taken}
 use Rattle.descriptor_table.proofs.Turning.{due_not_listed, one_fewer, same_next, settled_grows, settled_here, settled_not_due, settled_set, stays_more, turn_step}
 use Rattle.descriptor_table.proofs.Listed.{with_use}
 use Rattle.descriptor_table.proofs.set_table.SetTable.settle_due.Goals.{After-settle}
-use Rattle.descriptor_table.specs.declared.slot.Use.TheVariants.{Going, Taken}
 use Rattle.descriptor_table.proofs.set_table.SetTable.settle_due.Goals as goal
 
 -- the set that was picked settled

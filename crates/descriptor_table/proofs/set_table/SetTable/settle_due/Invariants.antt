@@ -1,7 +1,5 @@
-use Rattle.descriptor_table.specs.Slots.{count, is_due}
-use Rattle.descriptor_table.specs.Tables.{IsBack, Stays, removed_of, slots_of, used_for}
+use Rattle.descriptor_table.proofs.Common.{count, is_due, IsBack, Stays, removed_of, slots_of, used_for, Going}
 use Rattle.descriptor_table.proofs.Turning.{Turning}
-use Rattle.descriptor_table.specs.declared.slot.Use.TheVariants.{Going}
 use Rattle.descriptor_table.proofs.set_table.SetTable.settle_due.Given as goal
 
 -- some of the due sets are settled

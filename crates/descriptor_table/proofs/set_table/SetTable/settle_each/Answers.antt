@@ -1,7 +1,4 @@
-use Rattle.std.proofs.Common.{◌≡◌, ◌∙◌, ℕ, false, is_some, sym, ap}
-use Rattle.descriptor_table.specs.Slots.{in_list, is_in, slot_at}
-use Rattle.descriptor_table.specs.Tables.{HasTaken, removed_of, next_use, slots_of, used_for}
-use Rattle.descriptor_table.specs.declared.slot.Use.TheVariants.{Taken}
+use Rattle.descriptor_table.proofs.Common.{◌≡◌, ◌∙◌, ℕ, false, is_some, sym, ap, in_list, is_in, slot_at, HasTaken, removed_of, next_use, slots_of, used_for, Taken}
 use Rattle.descriptor_table.proofs.Holding.{first_none}
 use Rattle.descriptor_table.proofs.Listed.{with_use}
 use Rattle.descriptor_table.proofs.Named.{each_turned, next_taken, next_turned}

@@ -1,5 +1,4 @@
-use Rattle.descriptor_table.specs.Tables.{IsBack, Stays, removed_of, slots_of, used_for}
-use Rattle.descriptor_table.specs.declared.slot.Use.TheVariants.{Going}
+use Rattle.descriptor_table.proofs.Common.{IsBack, Stays, removed_of, slots_of, used_for, Going}
 use Rattle.descriptor_table.proofs.Holding.{TurnedFirst}
 use Rattle.descriptor_table.proofs.set_table.SetTable.settle_each.Given as goal
 

@@ -1,6 +1,4 @@
-use Rattle.std.proofs.Common.{refl, subst}
-use Rattle.descriptor_table.specs.Tables.{Becomes, IsBack, Settings, TurnEach, slots_of, used_for}
-use Rattle.descriptor_table.specs.declared.slot.Use.TheVariants.{Going, Taken}
+use Rattle.descriptor_table.proofs.Common.{refl, subst, Becomes, IsBack, Settings, TurnEach, slots_of, used_for, Going, Taken}
 use Rattle.descriptor_table.proofs.Holding.{has_taken, taken_settled}
 use Rattle.descriptor_table.proofs.Turning.{stays_more}
 use Rattle.descriptor_table.proofs.set_table.SetTable.settle_held.Goals.{After-take_each}

@@ -1,9 +1,4 @@
-use Rattle.std.proofs.lemmas.Grind.{common_steps}
-use Rattle.std.proofs.Common.{◌≡◌, ◌∙◌, refl, sym, ap, true, arith}
-use Rattle.std.proofs.lemmas.Bool.{false≢true}
-use Rattle.descriptor_table.specs.Slots.{Slot}
-use Rattle.descriptor_table.specs.Tables.{Settings, CanBeHeld, holds, slots_of, used_for}
-use Rattle.descriptor_table.specs.declared.slot.Use.TheVariants.{Taken}
+use Rattle.descriptor_table.proofs.Common.{common_steps, ◌≡◌, ◌∙◌, refl, sym, ap, true, arith, false≢true, Slot, Settings, CanBeHeld, holds, slots_of, used_for, Taken}
 use Rattle.descriptor_table.proofs.Holding.{can_turn, taken_not_held, turned_back, turned_each}
 use Rattle.descriptor_table.proofs.Named.{is_named, names_all, names_end, names_more, names_no, names_none}
 use Rattle.descriptor_table.proofs.Turning.{stays_more, stays_same}

@@ -1,5 +1,4 @@
-use Rattle.descriptor_table.specs.Tables.{Becomes, Stays, slots_of, used_for}
-use Rattle.descriptor_table.specs.declared.slot.Use.TheVariants.{Taken}
+use Rattle.descriptor_table.proofs.Common.{Becomes, Stays, slots_of, used_for, Taken}
 use Rattle.descriptor_table.proofs.Named.{TurnedNames}
 use Rattle.descriptor_table.proofs.set_table.SetTable.take_each.Given as goal
 

@@ -1,10 +1,7 @@
-use Rattle.std.proofs.lemmas.Grind.{common_steps}
-use Rattle.std.proofs.Common.{◌≢◌, arith}
+use Rattle.descriptor_table.proofs.Common.{common_steps, ◌≢◌, arith, list_of, Group, KeptOf}
 use Rattle.descriptor_table.proofs.Renewing.{gives, listed_full}
 use Rattle.descriptor_table.proofs.Turning.{stays_more}
-use Rattle.descriptor_table.specs.Giving.{list_of}
-use Rattle.descriptor_table.specs.declared.giving.Group.{Group}
-use Rattle.descriptor_table.specs.declared.giving.Group.TheVariants.{Going, KeptOf}
+use Rattle.descriptor_table.specs.declared.giving.Group.TheVariants.{Going}
 use Rattle.descriptor_table.proofs.set_table.SetTable.take_of.Goals as goal
 
 -- no group has the list of vacant slots

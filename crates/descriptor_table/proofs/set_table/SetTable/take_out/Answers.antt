@@ -1,9 +1,4 @@
-use Rattle.std.proofs.lemmas.Grind.{common_steps}
-use Rattle.std.proofs.Common.{◌∙◌, ◌≡◌, ◌<◌, refl, subst, sym, ap, true, arith}
-use Rattle.descriptor_table.specs.Lists.{chains_in}
-use Rattle.descriptor_table.specs.Slots.{AreCounted, AreSound, IsNowhere, Slot, is_in, slot_at, slots_in}
-use Rattle.descriptor_table.specs.Tables.{layouts_of, removed_of, slots_of, vacated}
-use Rattle.descriptor_table.specs.Users.{users_in}
+use Rattle.descriptor_table.proofs.Common.{common_steps, ◌∙◌, ◌≡◌, ◌<◌, refl, subst, sym, ap, true, arith, chains_in, AreCounted, AreSound, IsNowhere, Slot, is_in, slot_at, slots_in, layouts_of, removed_of, slots_of, vacated, users_in}
 use Rattle.descriptor_table.proofs.Numbers.{left_counted, set_user}
 use Rattle.descriptor_table.proofs.Writing.{few_more, front_sound}
 use Rattle.descriptor_table.proofs.set_table.SetTable.take_out.Goals.{After-leave}

@@ -1,10 +1,4 @@
-use Rattle.std.proofs.Common.{◌≤◌, ◌+◌, inl, inr, sym, subst, ap, arith}
-use Rattle.std.proofs.lemmas.List.{get_or_past, length-map}
-use Rattle.std.proofs.lemmas.Bool.{cases_eq, cases_lt}
-use Rattle.descriptor_table.specs.Slots.{count, is_kept_of, shown}
-use Rattle.descriptor_table.specs.Tables.{Settings, slots_of}
-use Rattle.descriptor_table.specs.Lists.{chains_in}
-use Rattle.descriptor_table.specs.declared.slot.Chain.{Chain}
+use Rattle.descriptor_table.proofs.Common.{◌≤◌, ◌+◌, inl, inr, sym, subst, ap, arith, get_or_past, length-map, cases_eq, cases_lt, count, is_kept_of, shown, Settings, slots_of, chains_in, Chain}
 use Rattle.descriptor_table.proofs.Counts.{chain_counts}
 use Rattle.descriptor_table.proofs.Turning.{stays_more, trim_more, trim_others}
 use Rattle.descriptor_table.proofs.set_table.SetTable.trim.Goals as goal

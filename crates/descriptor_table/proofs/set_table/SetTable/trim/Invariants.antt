@@ -1,8 +1,5 @@
-use Rattle.std.proofs.Common.{◌≤◌, ◌<◌, ℕ}
-use Rattle.descriptor_table.specs.Slots.{count, is_kept_of}
-use Rattle.descriptor_table.specs.Tables.{KeepsUpTo, Stays, is_kept, slots_of, used_for, Becomes}
+use Rattle.descriptor_table.proofs.Common.{◌≤◌, ◌<◌, ℕ, count, is_kept_of, KeepsUpTo, Stays, is_kept, slots_of, used_for, Becomes, Going}
 use Rattle.descriptor_table.proofs.Turning.{Turning}
-use Rattle.descriptor_table.specs.declared.slot.Use.TheVariants.{Going}
 use Rattle.descriptor_table.proofs.set_table.SetTable.trim.Given as goal
 
 -- the layouts before this one have no more kept sets than so many

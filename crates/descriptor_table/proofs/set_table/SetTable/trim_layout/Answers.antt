@@ -1,6 +1,4 @@
-use Rattle.std.proofs.Common.{◌+◌, arith}
-use Rattle.descriptor_table.specs.Slots.{Slot, is_kept_of}
-use Rattle.descriptor_table.specs.Tables.{slots_of}
+use Rattle.descriptor_table.proofs.Common.{◌+◌, arith, Slot, is_kept_of, slots_of}
 use Rattle.descriptor_table.proofs.Counts.{none_count}
 use Rattle.descriptor_table.proofs.Turning.{go_less, go_step, going_out, stays_more}
 use Rattle.descriptor_table.proofs.set_table.SetTable.trim_layout.Goals as goal

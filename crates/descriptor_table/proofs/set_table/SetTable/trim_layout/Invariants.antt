@@ -1,7 +1,5 @@
-use Rattle.descriptor_table.specs.Slots.{count, is_kept_of}
-use Rattle.descriptor_table.specs.Tables.{KeepsUpTo, Stays, slots_of, used_for, Becomes}
+use Rattle.descriptor_table.proofs.Common.{count, is_kept_of, KeepsUpTo, Stays, slots_of, used_for, Becomes, Going}
 use Rattle.descriptor_table.proofs.Turning.{Turning}
-use Rattle.descriptor_table.specs.declared.slot.Use.TheVariants.{Going}
 use Rattle.descriptor_table.proofs.set_table.SetTable.trim_layout.Given as goal
 
 -- some sets of the list go

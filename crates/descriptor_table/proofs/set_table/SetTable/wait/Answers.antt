@@ -1,10 +1,5 @@
-use Rattle.std.proofs.lemmas.Grind.{common_steps}
-use Rattle.std.proofs.Common.{refl, rules, arith}
+use Rattle.descriptor_table.proofs.Common.{common_steps, refl, rules, arith, slot_at, slots_in, layouts_of, used_for, chains_in, Waits}
 use Rattle.descriptor_table.proofs.Chains.{taken_no_list, taken_out, unheld, waits_no_list}
-use Rattle.descriptor_table.specs.Slots.{slot_at, slots_in}
-use Rattle.descriptor_table.specs.Tables.{layouts_of, used_for}
-use Rattle.descriptor_table.specs.Lists.{chains_in}
-use Rattle.descriptor_table.specs.declared.slot.Use.TheVariants.{Waits}
 use Rattle.descriptor_table.proofs.Numbers.{slot_counted}
 use Rattle.descriptor_table.proofs.Sound.{listed, queued}
 use Rattle.descriptor_table.proofs.set_table.SetTable.wait.Goals as goal

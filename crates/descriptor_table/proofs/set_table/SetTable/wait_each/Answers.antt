@@ -1,5 +1,4 @@
-use Rattle.std.proofs.Common.{refl}
-use Rattle.descriptor_table.specs.Tables.{HasTaken, slots_of}
+use Rattle.descriptor_table.proofs.Common.{refl, HasTaken, slots_of}
 use Rattle.descriptor_table.proofs.Holding.{first_none}
 use Rattle.descriptor_table.proofs.Named.{each_turned, next_taken, next_turned}
 use Rattle.descriptor_table.proofs.Turning.{stays_more, stays_same}

@@ -1,5 +1,4 @@
-use Rattle.descriptor_table.specs.Tables.{Becomes, Stays, slots_of, used_for}
-use Rattle.descriptor_table.specs.declared.slot.Use.TheVariants.{Waits}
+use Rattle.descriptor_table.proofs.Common.{Becomes, Stays, slots_of, used_for, Waits}
 use Rattle.descriptor_table.proofs.Holding.{TurnedFirst}
 use Rattle.descriptor_table.proofs.set_table.SetTable.wait_each.Given as goal
 

@@ -1,5 +1,4 @@
-use Rattle.std.proofs.Common.{refl, ◌∙◌}
-use Rattle.descriptor_table.specs.Slots.{slots_in, waits}
+use Rattle.descriptor_table.proofs.Common.{refl, ◌∙◌, slots_in, waits}
 use Rattle.descriptor_table.proofs.Counts.{listed_count}
 use Rattle.descriptor_table.proofs.set_table.SetTable.waiting_total.Goals as goal
 

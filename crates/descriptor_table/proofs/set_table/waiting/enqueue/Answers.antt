@@ -1,10 +1,5 @@
-use Rattle.std.proofs.lemmas.Grind.{common_steps}
-use Rattle.std.proofs.Common.{◌≡◌, ◌<◌, ◌≤◌, ℕ, List, is_some, length, false, true, slice_set, sym, ap, subst, ◌∙◌, arith}
-use Rattle.std.proofs.lemmas.List.{length-set}
+use Rattle.descriptor_table.proofs.Common.{common_steps, ◌≡◌, ◌<◌, ◌≤◌, ℕ, List, is_some, length, false, true, slice_set, sym, ap, subst, ◌∙◌, arith, length-set, IsNonDecreasingBy, IsPartitionPoint, IsQueue, Slot, frame_of, slot_at, slots_in, waits, waits_for, Use}
 use Rattle.std.proofs.lemmas.List.Edits.{insert_end}
-use Rattle.std.specs.List.Sorted.{IsNonDecreasingBy, IsPartitionPoint}
-use Rattle.descriptor_table.specs.Slots.{IsQueue, Slot, frame_of, slot_at, slots_in, waits, waits_for}
-use Rattle.descriptor_table.specs.declared.slot.Use.{Use}
 use Rattle.descriptor_table.proofs.Waiting.{few_wait, out_queue, put_queue, still_bound, still_rises}
 use Rattle.descriptor_table.proofs.set_table.waiting.enqueue.Given.{Over}
 use Rattle.descriptor_table.proofs.set_table.waiting.enqueue.Goals as goal

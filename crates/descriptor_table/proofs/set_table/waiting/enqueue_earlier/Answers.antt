@@ -1,7 +1,4 @@
-use Rattle.std.proofs.Common.{arith, leb, leb-true, rules}
-use Rattle.std.proofs.lemmas.Bool.{leb-false}
-use Rattle.std.proofs.lemmas.List.Sorted.{IsPartitionPoint-from_clause, IsPartitionedBy-leb}
-use Rattle.descriptor_table.specs.Slots.{frame_of, slot_at, slots_in}
+use Rattle.descriptor_table.proofs.Common.{arith, leb, leb-true, rules, leb-false, IsPartitionPoint-from_clause, IsPartitionedBy-leb, frame_of, slot_at, slots_in}
 use Rattle.descriptor_table.proofs.set_table.waiting.enqueue_earlier.Goals as goal
 
 pub returns-clause-items : goal.returns-clause-items

@@ -1,9 +1,5 @@
-use Rattle.std.proofs.Math.Nat.{add-mod_right, mod-eq_of_lt}
-use Rattle.std.proofs.Common.{◌+◌, ◌%◌, ◌∙◌, refl, arith}
-use Rattle.std.proofs.lemmas.Bool.{le-leb}
+use Rattle.descriptor_table.proofs.Common.{add-mod_right, mod-eq_of_lt, ◌+◌, ◌%◌, ◌∙◌, refl, arith, le-leb, slot_of, aged}
 use Rattle.std.proofs.lemmas.Nat.{mod_below}
-use Rattle.descriptor_table.specs.Slots.{slot_of}
-use Rattle.descriptor_table.specs.Tables.{aged}
 use Rattle.descriptor_table.proofs.Entries.{next_stays, written}
 use Rattle.descriptor_table.proofs.slot_list.SlotList.age.Goals as goal
 

@@ -1,8 +1,4 @@
-use Rattle.std.proofs.Math.Nat.{mod-eq_of_lt}
-use Rattle.std.proofs.lemmas.Bool.{lt-leb}
-use Rattle.std.proofs.Common.{◌≡◌, ◌+◌, ◌∙◌, refl, sym, ap}
-use Rattle.descriptor_table.specs.Slots.{Slot, filled}
-use Rattle.descriptor_table.specs.Tables.{renewed}
+use Rattle.descriptor_table.proofs.Common.{mod-eq_of_lt, lt-leb, ◌≡◌, ◌+◌, ◌∙◌, refl, sym, ap, Slot, filled, renewed}
 use Rattle.descriptor_table.proofs.Entries.{next_stays, slot_is, written}
 use Rattle.descriptor_table.proofs.slot_list.SlotList.fill.Goals as goal
 

@@ -1,6 +1,4 @@
-use Rattle.std.proofs.lemmas.Grind.{common_steps}
-use Rattle.std.proofs.Common.{arith}
-use Rattle.std.proofs.lemmas.List.{get_or-map, length-map, length-set, map-set}
+use Rattle.descriptor_table.proofs.Common.{common_steps, arith, get_or-map, length-map, length-set, map-set}
 use Rattle.descriptor_table.proofs.Entries.{slot_stays}
 use Rattle.descriptor_table.proofs.slot_list.SlotList.link_after.Goals as goal
 

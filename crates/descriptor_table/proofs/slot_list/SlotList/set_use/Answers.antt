@@ -1,6 +1,4 @@
-use Rattle.std.proofs.lemmas.Grind.{common_steps}
-use Rattle.std.proofs.Common.{arith}
-use Rattle.descriptor_table.specs.Tables.{used_for}
+use Rattle.descriptor_table.proofs.Common.{common_steps, arith, used_for}
 use Rattle.descriptor_table.proofs.Entries.{next_stays, written}
 use Rattle.descriptor_table.proofs.slot_list.SlotList.set_use.Goals as goal
 

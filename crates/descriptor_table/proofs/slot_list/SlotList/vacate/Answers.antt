@@ -1,5 +1,4 @@
-use Rattle.std.proofs.Common.{refl}
-use Rattle.descriptor_table.specs.Tables.{vacated}
+use Rattle.descriptor_table.proofs.Common.{refl, vacated}
 use Rattle.descriptor_table.proofs.Entries.{next_set, written}
 use Rattle.descriptor_table.proofs.slot_list.SlotList.vacate.Goals as goal
 

@@ -1,5 +1,4 @@
-use Rattle.std.proofs.lemmas.Grind.{common_steps}
-use Rattle.std.proofs.Common.{arith}
+use Rattle.descriptor_table.proofs.Common.{common_steps, arith}
 use Rattle.descriptor_table.proofs.Numbers.{free_less, last_free, last_within}
 use Rattle.descriptor_table.proofs.users.LayoutUsers.take.Goals as goal
 
