@@ -16,10 +16,10 @@ pub use Rattle.descriptor_manager.specs.declared.layout_registry.LayoutRegistry.
 pub use Rattle.descriptor_manager.specs.declared.manager.SetManager.{SetManager}
 pub use Rattle.descriptor_manager.specs.declared.store.Store.{Store}
 pub use Rattle.descriptor_table.proofs.Chains.{lists_apart, live_no_list}
-pub use Rattle.descriptor_table.proofs.Counts.{bit, count_few, count_none, count_set, none_count, same_count}
+pub use Rattle.descriptor_table.proofs.Counts.{count_few, count_none, count_set, none_count, same_count}
 pub use Rattle.descriptor_table.proofs.Holding.{apart_once, has_taken, held_is, named_or}
 pub use Rattle.descriptor_table.proofs.Leaving.{given_all, given_weigh, group_out, same_sets, tally, tally_length}
-pub use Rattle.descriptor_table.proofs.Listed.{other_slots, past_end, slot_set, test_within}
+pub use Rattle.descriptor_table.proofs.Listed.{bit, other_slots, past_end, slot_set, test_within}
 pub use Rattle.descriptor_table.proofs.Names.{handles_both, handles_long, handles_written, place_read}
 pub use Rattle.descriptor_table.proofs.Naming.{ShowsSame, names_kept, names_lost, shown}
 pub use Rattle.descriptor_table.proofs.Renewing.{kept_full, kept_is, room_stays, vacant_is}

@@ -2,11 +2,7 @@
 use Rattle.descriptor_table.proofs.Common.{common_steps, ◌≡◌, ◌≢◌, ℕ, zero, suc, ◌+◌, ◌<◌, ◌≤◌, Bool, true, false, inl, inr, if◌then◌else◌, List, [], ◌∷◌, length, set, refl, ap, ◌∙◌, arith, rules, sym, is_of, list_of, HasList, walk, AreLinked, Lists, chain_at, count, is_in, is_kept_of}
 use Rattle.descriptor_table.proofs.Common.{nexts_in, no_slot, slot_at, removed_of, slots_of, chains_in, Group, SetTable, Slot, Chain, cases_eq, true≢false}
 use Rattle.descriptor_table.proofs.Relisted.{group_there, list_is}
-use Rattle.descriptor_table.proofs.Listed.{walk_length, first_passes, one_none, test_within, lists_pop}
-
--- 1 if the test holds
-abbrev pub bit : Bool → ℕ
-bit b = if b then 1 else 0
+use Rattle.descriptor_table.proofs.Listed.{bit, walk_length, first_passes, one_none, test_within, lists_pop}
 
 bit_few : (b : Bool) → bit b ≤ 1
 bit_few x0 = grind (arith, common_steps)

@@ -4,13 +4,13 @@ use Rattle.descriptor_table.proofs.Common.{used_for, Use}
 use Rattle.descriptor_table.proofs.Counting.{times_here, times_there}
 
 -- 1 if the test holds
-abbrev pub one : Bool → ℕ
-one b = if b then 1 else 0
+abbrev pub bit : Bool → ℕ
+bit b = if b then 1 else 0
 
-pub one_less : (b : Bool) (n : ℕ) → n + 1 ≡ one b → (n ≡ 0) × (b ≡ true)
+pub one_less : (b : Bool) (n : ℕ) → n + 1 ≡ bit b → (n ≡ 0) × (b ≡ true)
 one_less x0 n e = grind (arith, common_steps)
 
-pub one_none : (b : Bool) → one b ≡ 0 → b ≡ false
+pub one_none : (b : Bool) → bit b ≡ 0 → b ≡ false
 one_none x0 e = grind (arith, common_steps)
 
 pub walk_length : (n : ℕ) (next : List ℕ) (first : ℕ) → length (walk n next first) ≡ n
@@ -36,21 +36,21 @@ module _ {T : Type 0} where
 
   -- a list stays if the slot that changed passes its test as before; below it gets a place in front, or loses it
   pub lists_other : (t : Slot T → Bool) (slots : List (Slot T)) (p : ℕ) (s : Slot T) (l : List ℕ) → Lists t slots l → p < length slots → t s ≡ t (slot_at slots p) → Lists t (set slots p s) l
-  lists_other t slots p s l h within same = grind (arith, common_steps, one, other_slots, cases_eq, slot_set)
+  lists_other t slots p s l h within same = grind (arith, common_steps, bit, other_slots, cases_eq, slot_set)
 
   pub lists_push : (t : Slot T → Bool) (slots : List (Slot T)) (p : ℕ) (s : Slot T) (l : List ℕ) → Lists t slots l → p < length slots → t (slot_at slots p) ≡ false → t s ≡ true → Lists t (set slots p s) (p ∷ l)
-  lists_push t slots p s l h within was now = grind (arith, common_steps, one, other_slots, cases_eq, slot_set, times_here, times_there)
+  lists_push t slots p s l h within was now = grind (arith, common_steps, bit, other_slots, cases_eq, slot_set, times_here, times_there)
 
   -- the first of a list passes the test, and is there once
   pub first_passes : (t : Slot T → Bool) (slots : List (Slot T)) (p : ℕ) (l : List ℕ) → Lists t slots (p ∷ l) → (times p l ≡ 0) × (t (slot_at slots p) ≡ true)
   first_passes t slots p l h = one_less (t (slot_at slots p)) (times p l) (sym (times_here p l) ∙ h p)
 
   pub lists_pop : (t : Slot T → Bool) (slots : List (Slot T)) (p : ℕ) (s : Slot T) (l : List ℕ) → Lists t slots (p ∷ l) → p < length slots → t s ≡ false → Lists t (set slots p s) l
-  lists_pop t slots p s l h within now = grind (arith, common_steps, first_passes, one, other_slots, cases_eq, slot_set, times_there)
+  lists_pop t slots p s l h within now = grind (arith, common_steps, first_passes, bit, other_slots, cases_eq, slot_set, times_there)
 
   pub past_end : (slots : List (Slot T)) (p : ℕ) → length slots ≤ p → slot_at slots p ≡ no_slot
   past_end slots p le = get_or_past slots p no_slot le
 
   -- a slot that does not pass the test is not in the list
   pub not_listed : (t : Slot T → Bool) (slots : List (Slot T)) (l : List ℕ) (p : ℕ) → Lists t slots l → t (slot_at slots p) ≡ false → times p l ≡ 0
-  not_listed t slots l p h out = h p ∙ ap one out
+  not_listed t slots l p h out = h p ∙ ap bit out

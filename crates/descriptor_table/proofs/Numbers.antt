@@ -9,7 +9,8 @@ use Rattle.descriptor_table.specs.declared.lists.Lists.{Lists}
 use Rattle.descriptor_table.proofs.Counting.{times_here, times_there}
 use Rattle.descriptor_table.proofs.Entries.{in_place}
 use Rattle.descriptor_table.proofs.Growing.{count_grown}
-use Rattle.descriptor_table.proofs.Counts.{bit, count_less, count_set, none_count, same_count, some_count}
+use Rattle.descriptor_table.proofs.Counts.{count_less, count_set, none_count, same_count, some_count}
+use Rattle.descriptor_table.proofs.Listed.{bit}
 
 -- a number that isn't in a list is none of it
 apart : (p : ℕ) (l : List ℕ) → times p l ≡ 0 → AllByRecursion (λ q. (p == q) ≡ false) l

@@ -3,8 +3,8 @@
 use Rattle.descriptor_table.proofs.Common.{common_steps, ◌≡◌, ◌≢◌, ℕ, ◌+◌, ◌<◌, ◌≤◌, Bool, true, false, List, length, set, Option, None, is_some, refl, arith, rules, length-set, set-set, false≢true, count, filled, is_in, slot_at, At, GivesAny, HasRoom, Picks, Puts, Stays, is_usable, slots_of}
 use Rattle.descriptor_table.proofs.Common.{used_for, vacated, SetTable, Taken, Slot}
 use Rattle.descriptor_table.proofs.Chains.{and_true}
-use Rattle.descriptor_table.proofs.Counts.{bit, count_set}
-use Rattle.descriptor_table.proofs.Listed.{other_slots, slot_set, test_within}
+use Rattle.descriptor_table.proofs.Counts.{count_set}
+use Rattle.descriptor_table.proofs.Listed.{bit, other_slots, slot_set, test_within}
 
 module _ {T : Type 0} where
   -- what is known of a vacant slot

@@ -1,7 +1,8 @@
 -- How many sets are kept of several layouts together: the loop of `SetTable::kept_total`, at its start, with one layout more, and with all.
 use Rattle.descriptor_table.proofs.Common.{common_steps, ◌≡◌, ℕ, ◌+◌, ◌≤◌, ◌&&◌, nat_lt, Bool, List, arith, cases_eq, le-ltb, lt-ltb, Slot, count, is_kept_of, is_kept}
 use Rattle.descriptor_table.proofs.Chains.{HasLists}
-use Rattle.descriptor_table.proofs.Counts.{bit, count_as, count_split, none_count}
+use Rattle.descriptor_table.proofs.Counts.{count_as, count_split, none_count}
+use Rattle.descriptor_table.proofs.Listed.{bit}
 
 module _ {T : Type 0} where
   -- whether a slot has a kept set of a layout with a number below this one

@@ -4,8 +4,8 @@
 use Rattle.descriptor_table.proofs.Common.{common_steps, ◌≡◌, ◌≢◌, ℕ, zero, suc, ◌+◌, ◌<◌, ◌≤◌, ◌⊎◌, ◌&&◌, Bool, true, false, if◌then◌else◌, List, [], ◌∷◌, length, set, ne_eqb, is_some, inl, refl, sym, ap, ◌∙◌, arith, nat_le, rules, length-set, set-set, cases_eq, ltb-false, true≢false}
 use Rattle.descriptor_table.proofs.Common.{IsNowhere, Slot, count, is_due, is_in, slot_at, waits_for, Settings, CanBeHeld, IsBack, MayBecome, Picks, Stays, Turns, removed_of, holds, is_kept, next_use, stays, used_for, Becomes, settings_of, SetTable, Use, Going, Kept, Taken}
 use Rattle.descriptor_table.proofs.Chains.{and_true, lists_apart, nowhere_out}
-use Rattle.descriptor_table.proofs.Counts.{bit, count_set, same_count}
-use Rattle.descriptor_table.proofs.Listed.{other_slots, slot_set, with_use}
+use Rattle.descriptor_table.proofs.Counts.{count_set, same_count}
+use Rattle.descriptor_table.proofs.Listed.{bit, other_slots, slot_set, with_use}
 
 module _ {T : Type 0} where
   -- a slot in use for one thing after another

@@ -1,8 +1,8 @@
 use Rattle.descriptor_table.proofs.Common.{common_steps, ◌≡◌, ◌≢◌, ◌∙◌, ◌+◌, ◌<◌, ℕ, true, length, List, refl, sym, ap, arith, rules, length-set, cases_eq, Slot, count, is_kept_of, slot_at, Settings, Picks, slots_of, used_for, KeptOf, Kept, Taken}
 use Rattle.descriptor_table.proofs.Chains.{taken_no_list}
-use Rattle.descriptor_table.proofs.Counts.{group_has, some_count, bit, chain_counts, count_set}
+use Rattle.descriptor_table.proofs.Counts.{group_has, some_count, chain_counts, count_set}
 use Rattle.descriptor_table.proofs.Holding.{all_same, used_same}
-use Rattle.descriptor_table.proofs.Listed.{other_slots, slot_set, test_within, with_use}
+use Rattle.descriptor_table.proofs.Listed.{bit, other_slots, slot_set, test_within, with_use}
 use Rattle.descriptor_table.proofs.Turning.{stays_more}
 use Rattle.descriptor_table.proofs.Writing.{has_still}
 use Rattle.descriptor_table.proofs.set_table.SetTable.+unlink.Goals as goal
