@@ -2,7 +2,7 @@
 -- `slots` are those of sets, `layouts` those of layouts, `known` is a layout, and `n` or `number` the number of one.
 -- The last lemma is of the pools of a layout, by the counts and flags that it is known with.
 use Rattle.descriptor_manager.proofs.Common.{common_steps, ◌≡◌, ℕ, ◌⊎◌, Bool, false, true, List, length, Option, Some, None, inl, inr, refl, ap, subst, ◌∙◌, arith, IfSome, IsOfLayout, Ghosts, AllocationError, SetLayout, DescriptorSet, IsMeant, Allocations, books_of, Sets, find, sets_of, Slot}
-use Rattle.descriptor_manager.proofs.Common.{is_set_of, slot_at, Settings, is_usable, layouts_of, settings_of, SetHandle, vacant_is, layout_at, layout_slots, registry_of, HasSetsOf, ComesOf, IsAtRest, IsRefusedAtLast, KeepsStore, NoneComes, SetsCome, SettlesTo, removed_in, slots_in}
+use Rattle.descriptor_manager.proofs.Common.{is_set_of, slot_at, Settings, is_usable, layouts_of, settings_of, SetHandle, vacant_is, layout_at, layout_slots, registry_of, HasSetsOf, IsAtRest, IsRefusedAtLast, KeepsStore, NoneComes, SetsCome, SettlesTo, removed_in, slots_in}
 use Rattle.descriptor_manager.proofs.Common.{LayoutHandle, LayoutRegistry, Store, pools_for, seen, SetManager}
 use Rattle.gpu_descriptor_types.specs.Counts.{kinds}
 use Rattle.gpu_descriptor.specs.Caller.Flags.{is_marked}

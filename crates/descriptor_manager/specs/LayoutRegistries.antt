@@ -1,5 +1,5 @@
 -- The layouts of a registry, and whose handles they have.
-use Rattle.std.specs.Prelude.{◌≡◌, ℕ, false, List, Option}
+use Rattle.std.specs.Prelude.{ℕ, false, List, Option}
 use Rattle.gpu_descriptor_types.specs.declared.device.DescriptorDevice.{Ghosts}
 use Rattle.gpu_descriptor.specs.declared.layout.SetLayout.{SetLayout}
 use Rattle.descriptor_table.specs.Sets.{Sets, sets_of}
