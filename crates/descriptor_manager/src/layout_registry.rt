@@ -1,6 +1,6 @@
 //! Layouts under handles.
 ghost use Rattle.std.specs.Prelude.{◌≡◌, ◌≢◌, ◌+◌, ◌<◌, ℕ, [], ◌∷◌, length, slice_set, IfSome};
-ghost use Rattle.std.specs.Prelude.{IsFalse, IsSome, None, OnOk, Some, true};
+ghost use Rattle.std.specs.Prelude.{IsFalse, IsOk, IsSome, None, OnOk, Some, true};
 ghost use Rattle.std.specs.Option.{option_copied};
 ghost use Rattle.gpu_descriptor.specs.Caller.SetLayouts.{IsMeant};
 ghost use Rattle.gpu_descriptor.specs.declared.layout.SetLayout.{SetLayout};
@@ -64,6 +64,7 @@ impl<L, P, S, D: DescriptorDevice<L, P, S>> LayoutRegistry<L, P, S, D> {
     #[inline]
     pub fn reserve(&mut self) -> Result<(), AllocError>
         ensures room { OnOk result (HasPlace self.new.table) }
+        ensures fits { HasPlace self.old.table → IsOk result }
         ensures slots { layout_slots self.new ≡ layout_slots self.old }
         ensures registry { registry_of self.new ≡ registry_of self.old }
     {

@@ -1,11 +1,12 @@
 //! The set manager: its layouts, and the calls that concern all its sets.
 ghost use Rattle.std.specs.Prelude.{◌≡◌, ◌≢◌, ◌≤◌, ◌⊎◌, ◌↔◌, ℕ, [], length};
-ghost use Rattle.std.specs.Prelude.{IfErr, IfOk, IsErrOf, IsSome, None, OnErr, OnOk, Some, false, true};
+ghost use Rattle.std.specs.Prelude.{IfErr, IfOk, IsErrOf, IsOk, IsSome, None, OnErr, OnOk, Some, false, true};
 ghost use Rattle.std.specs.Option.{option_copied};
 ghost use Rattle.gpu_descriptor.specs.Caller.CleansUp.{Sweeps};
 ghost use Rattle.gpu_descriptor.specs.Caller.SetLayouts.{IsMeant};
+ghost use Rattle.descriptor_table.specs.Handles.{HasPlace};
 ghost use Rattle.descriptor_table.specs.Slots.{count, is_kept_of, is_set_of, slot_at, waits};
-ghost use Rattle.descriptor_table.specs.Tables.{KeepsUpTo, MayBecome, Turns, holds, is_kept};
+ghost use Rattle.descriptor_table.specs.Tables.{HasListRoom, KeepsUpTo, MayBecome, Turns, holds, is_kept};
 ghost use Rattle.descriptor_table.specs.Tables.{vacated};
 ghost use Rattle.descriptor_manager.specs.LayoutRegistries.{layout_slots, registry_of};
 ghost use Rattle.descriptor_manager.specs.Own.{HasSetsOf};
@@ -103,8 +104,9 @@ impl<L: Drop, P: Drop, S: Drop, D: DescriptorDevice<L, P, S>> SetManager<L, P, S
     }
 
     /// Adds a layout and returns its handle, which is never given again. A removed layout's memory is used
-    /// again once all its sets are back in their pools. If memory runs out, or if there are 2^31 layouts with the
-    /// removed ones of which sets are left, it returns the layout in the error, and nothing changes.
+    /// again once all its sets are back in their pools, and that can't fail. If memory runs out, or if there are
+    /// 2^31 layouts with the removed ones of which sets are left, it returns the layout in the error, and nothing
+    /// changes.
     pub fn add_layout(
         &mut self,
         layout: SetLayout<L>,
@@ -121,6 +123,7 @@ impl<L: Drop, P: Drop, S: Drop, D: DescriptorDevice<L, P, S>> SetManager<L, P, S
             × ((seen self.new).given other ≡ (seen self.old).given other)) }
         ensures grows { (length (layouts_in self.new) ≡ length (layouts_in self.old))
             ⊎ NoneFree (layouts_in self.old) (slots_of self.old) }
+        ensures full { OnErr result (NoneFree (layouts_in self.old) (slots_of self.old)) }
         ensures stay { OnErr result (seen self.new ≡ seen self.old) }
         ensures back { IfErr result (λ failed. failed.value ≡ layout) }
         ensures rest { seen self.new ≡ record (seen self.old) {
@@ -155,6 +158,7 @@ impl<L: Drop, P: Drop, S: Drop, D: DescriptorDevice<L, P, S>> SetManager<L, P, S
         ensures others { IfOk result (λ handle. (other : LayoutHandle) → other ≢ handle
             → (layout_of self.new other ≡ layout_of self.old other)
             × ((seen self.new).given other ≡ (seen self.old).given other)) }
+        ensures fits { HasListRoom self.old.store.table → HasPlace self.old.layouts.table → IsOk result }
         ensures stay { OnErr result (seen self.new ≡ seen self.old) }
         ensures back { IfErr result (λ failed. failed.value ≡ layout) }
         ensures rest { seen self.new ≡ record (seen self.old) {

@@ -1,5 +1,5 @@
 //! A set manager's table of sets, its allocator and its device.
-ghost use Rattle.std.specs.Prelude.{◌≡◌, ◌≤◌, ◌+◌, ◌<◌, ◌↔◌, [], length, false, IfErr, IfSome, IsTrue, None, OnOk, Some, option_map};
+ghost use Rattle.std.specs.Prelude.{◌≡◌, ◌≤◌, ◌+◌, ◌<◌, ◌↔◌, [], length, false, IfErr, IfSome, IsOk, IsTrue, None, OnOk, Some, option_map};
 ghost use Rattle.std.specs.Option.{option_copied};
 ghost use Rattle.gpu_descriptor.specs.Caller.Flags as flags;
 ghost use Rattle.gpu_descriptor.specs.Caller.SetLayouts.{IsMeant};
@@ -86,6 +86,7 @@ impl<L: Drop, P: Drop, S: Drop, D: DescriptorDevice<L, P, S>> Store<L, P, S, D> 
     /// Reserves memory for one more layout.
     pub(crate) fn reserve_layout(&mut self) -> Result<(), AllocError>
         ensures room { OnOk result (HasListRoom self.new.table) }
+        ensures fits { HasListRoom self.old.table → IsOk result }
         ensures contents { KeepsContents self.old self.new }
         ensures stays { KeepsStore self.old self.new }
     {

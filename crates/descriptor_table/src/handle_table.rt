@@ -44,6 +44,7 @@ impl<T> HandleTable<T> {
     /// Reserves memory for one more slot.
     pub fn reserve(&mut self) -> Result<(), AllocError>
         ensures room { OnOk result (HasPlace self.new) }
+        ensures fits { HasPlace self.old → IsOk result }
         ensures slots { values_of self.new ≡ values_of self.old }
         ensures number { self.new.number ≡ self.old.number }
     {

@@ -1,5 +1,7 @@
-use Rattle.descriptor_manager.proofs.Common.{◌≡◌, ◌<◌, inl, inr, refl, sym, ap, ◌∙◌, subst, arith, false, Settings, is_usable, test_within, layout_slots, seen, removed_in}
+use Rattle.descriptor_manager.proofs.Common.{◌≡◌, ◌<◌, inl, inr, refl, sym, ap, ◌∙◌, subst, arith, false, Settings, is_usable, test_within, layout_slots, seen, removed_in, slots_in}
 use Rattle.std.specs.Prelude.{OnErr}
+use Rattle.std.proofs.lemmas.Result.{on_err_weaker}
+use Rattle.descriptor_manager.specs.Managers.{NoneFree}
 use Rattle.descriptor_manager.proofs.Numbering.{apart_from, gone, layout_used, number_left, seen_kept, sets_more, sets_over, if_here, if_other}
 use Rattle.descriptor_manager.proofs.manager.SetManager.add_layout.Goals.{in-Some+else-is_usable, in_default}
 use Rattle.descriptor_manager.proofs.manager.SetManager.add_layout.Goals as goal
@@ -50,15 +52,22 @@ invariant_of-self-in_default-clause-sets g c =
     let s = (c.renew_layout.ensures.none (gone c.renew_layout.result c.in_default.not-Some)).1.settings in
     sets_over old.store c.renew_layout.new.self c.renew_layout.ensures.contents (λ n. inl (refl, ap (λ (s : Settings). s.removed n) s)) (ap (λ (s : Settings). s.layouts) s ∙ old.sets.numbers) (ap (λ (s : Settings). s.number) s) old.sets
 
-pub returns-clause-grows : goal.returns-clause-grows
-returns-clause-grows g c =
+-- no number is free
+none_free : (g : _) (c : goal.After-add_number g) → NoneFree (layout_slots c.args.self.now.layouts) (slots_in c.args.self.now.store)
+none_free g c =
     let old = c.args.self.now in
-    inr (elim c.match-renew_layout.branch [
+    elim c.match-renew_layout.branch [
       | in-Some+else-is_usable w ↦ inr (w.in-Some.number, number_left _ _ _ w.in-Some.number w.in-Some.ensures.renews.removed old.sets, w.if-is_usable.ensures.last refl)
       | in_default w ↦
           let none = (c.renew_layout.ensures.none (gone c.renew_layout.result w.in_default.not-Some)).0 in
           inl (λ n usable. none n (subst (λ l. n < l) (sym old.sets.numbers) (test_within is_usable (layout_slots old.layouts) n refl usable)) (old.sets.free n usable))
-    ])
+    ]
+
+pub returns-clause-grows : goal.returns-clause-grows
+returns-clause-grows g c = inr (none_free g c)
+
+pub returns-clause-full : goal.returns-clause-full
+returns-clause-full g c = on_err_weaker c.add_number.result (λ same. none_free g c) c.add_number.ensures.stay
 
 -- what is seen is as it was
 seen_same : (g : _) (c : goal.After-add_number g) → seen c.match-renew_layout.self ≡ seen c.args.self.now
