@@ -1,12 +1,12 @@
 //! The set manager: its layouts, and the calls that concern all its sets.
-ghost use Rattle.std.specs.Prelude.{◌≡◌, ◌≢◌, ◌≤◌, ◌⊎◌, ◌↔◌, ℕ, [], length};
+ghost use Rattle.std.specs.Prelude.{min, ◌≡◌, ◌≢◌, ◌≤◌, ◌⊎◌, ◌↔◌, ℕ, [], length};
 ghost use Rattle.std.specs.Prelude.{IfErr, IfOk, IsErrOf, IsOk, IsSome, None, OnErr, OnOk, Some, false, true};
 ghost use Rattle.std.specs.Option.{option_copied};
 ghost use Rattle.gpu_descriptor.specs.Caller.CleansUp.{Sweeps};
 ghost use Rattle.gpu_descriptor.specs.Caller.SetLayouts.{IsMeant};
 ghost use Rattle.descriptor_table.specs.Handles.{HasPlace};
 ghost use Rattle.descriptor_table.specs.Slots.{count, is_kept_of, is_set_of, slot_at, waits};
-ghost use Rattle.descriptor_table.specs.Tables.{HasListRoom, KeepsUpTo, MayBecome, Turns, holds, is_kept};
+ghost use Rattle.descriptor_table.specs.Tables.{HasListRoom, MayBecome, Turns, holds, is_kept};
 ghost use Rattle.descriptor_table.specs.Tables.{vacated};
 ghost use Rattle.descriptor_manager.specs.LayoutRegistries.{layout_slots, registry_of};
 ghost use Rattle.descriptor_manager.specs.Own.{HasSetsOf};
@@ -235,8 +235,7 @@ impl<L: Drop, P: Drop, S: Drop, D: DescriptorDevice<L, P, S>> SetManager<L, P, S
     /// Sets how many freed sets of a layout are kept at most. Those above `max` return to their pools.
     pub fn set_max_kept(&mut self, max: u32)
         ensures few { (layout : LayoutHandle) → kept_of layout self.new ≤ max }
-        ensures as_many { (layout : LayoutHandle) → KeepsUpTo max (is_kept_of layout.slot.place)
-            (slots_of self.old) (slots_of self.new) }
+        ensures as_many { (layout : LayoutHandle) → min max (kept_of layout self.old) ≤ kept_of layout self.new }
         ensures names { sets_by self.new ≡ sets_by self.old }
         ensures trims { FreesSets (Turns is_kept (MayBecome vacated)) (store_of self.old)
             (store_of self.new) }

@@ -1,5 +1,5 @@
 -- The names that most proofs cite, passed on from one place. Declares nothing.
-pub use Rattle.std.proofs.Common.{Bool, List, None, Option, Some, [], ap, arith, eq-eqb, eqb-true, false, get_or, if◌then◌else◌, inl, inr, insert, is_some, leb, leb-true, length, map, nat_eq, nat_le, nat_lt, ne_eqb, refl, rules, set, slice_index_or, slice_set, subst, suc, sym, take}
+pub use Rattle.std.proofs.Common.{Bool, List, None, Option, Some, [], ap, arith, eq-eqb, eqb-true, false, get_or, if◌then◌else◌, inl, inr, insert, is_some, leb, leb-true, length, map, min, nat_eq, nat_le, nat_lt, ne_eqb, refl, rules, set, slice_index_or, slice_set, subst, suc, sym, take}
 pub use Rattle.std.proofs.Common.{true, zero, zero-add, ℕ, ◌%◌, ◌&&◌, ◌++◌, ◌+◌, ◌-◌, ◌<◌, ◌==◌, ◌∙◌, ◌∷◌, ◌≡◌, ◌≢◌, ◌≤◌, ◌⊎◌}
 pub use Rattle.std.proofs.Math.Nat.{add-mod_right, mod-eq_of_lt}
 pub use Rattle.std.proofs.Math.Seq.{get_or-append_seam, map-set_same, set-append_seam}
@@ -15,7 +15,7 @@ pub use Rattle.descriptor_table.specs.Lists.{HasList, Relisted, chains_in, layou
 pub use Rattle.descriptor_table.specs.Places.{AreFree, times, users_at, walk}
 pub use Rattle.descriptor_table.specs.Sets.{AllFit, AreHeldOnce, LoseNames, is_held, is_last, joined, sets_in, sets_of}
 pub use Rattle.descriptor_table.specs.Slots.{AreCounted, AreLinked, AreSound, IsListed, IsNowhere, IsQueue, Lists, Slot, chain_at, count, filled, frame_of, in_list, is_due, is_in, is_kept_of, is_live, is_removed, is_set_of, nexts_in, no_slot, shown, slot_at, slot_of, slots_in, waits, waits_for}
-pub use Rattle.descriptor_table.specs.Tables.{AreAllUsed, At, Becomes, CanBeHeld, Changes, GivesAny, HasLayout, HasRoom, HasTaken, IsBack, KeepsUpTo, MayBecome, Picks, Puts, Settings, Stays, TurnEach, Turns, aged, holds, is_held_use, is_kept, is_usable, layouts_of, may_stay, next_use, place_at}
+pub use Rattle.descriptor_table.specs.Tables.{AreAllUsed, At, Becomes, CanBeHeld, Changes, GivesAny, HasLayout, HasRoom, HasTaken, IsBack, MayBecome, Picks, Puts, Settings, Stays, TurnEach, Turns, aged, holds, is_held_use, is_kept, is_usable, layouts_of, may_stay, next_use, place_at}
 pub use Rattle.descriptor_table.specs.Tables.{removed_as, removed_of, renewed, settings_of, slots_of, stays, used_for, vacated}
 pub use Rattle.descriptor_table.specs.Users.{users_in}
 pub use Rattle.descriptor_table.specs.declared.giving.Group.{Group}

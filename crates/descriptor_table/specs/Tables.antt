@@ -169,10 +169,6 @@ module _ {T : Type 0} where
   abbrev pub is_kept : Slot T → Bool
   is_kept s = is_kept_of s.layout s
 
-  -- of the slots that pass the test `max` still pass it, or all
-  abbrev pub KeepsUpTo : ℕ → (Slot T → Bool) → Slots T → Slots T → Type 0
-  KeepsUpTo max test old new = (n : ℕ) → n ≤ max → n ≤ count test old → n ≤ count test new
-
   -- the slot, whose set isn't kept once it is freed
   abbrev pub aged : Slot T → Slot T
   aged s = record s { is_aged = true }

@@ -1,5 +1,5 @@
 //! Sets that are freed: each is kept, or returns to its pool.
-ghost use Rattle.std.specs.Prelude.{◌≡◌, ℕ, ◌<◌, ◌≤◌, ◌↔◌, length, false, true, is_some, IsFalse, IsTrue};
+ghost use Rattle.std.specs.Prelude.{min, ◌≡◌, ℕ, ◌<◌, ◌≤◌, ◌↔◌, length, false, true, is_some, IsFalse, IsTrue};
 ghost use Rattle.gpu_descriptor.specs.Caller.CleansUp.{Sweeps};
 ghost use Rattle.gpu_descriptor.specs.Caller.Keeps.{Keeps};
 ghost use Rattle.gpu_descriptor.specs.Caller.SetLayouts.{IsMeant};
@@ -12,7 +12,7 @@ impl<L: Drop, P: Drop, S: Drop, D: DescriptorDevice<L, P, S>> Store<L, P, S, D> 
     ghost use Rattle.descriptor_table.specs.Giving.{is_of};
     ghost use Rattle.descriptor_table.specs.Sets.{AllFit, AreHeldOnce, sets_in};
     ghost use Rattle.descriptor_table.specs.Slots.{is_due, is_kept_of, slot_at};
-    ghost use Rattle.descriptor_table.specs.Tables.{Becomes, KeepsUpTo, MayBecome, HasLayout, TurnEach, Turns, is_kept, removed_as};
+    ghost use Rattle.descriptor_table.specs.Tables.{Becomes, MayBecome, HasLayout, TurnEach, Turns, is_kept, removed_as};
     ghost use Rattle.descriptor_table.specs.Tables.{settings_of, used_for, vacated};
     ghost use Rattle.descriptor_table.specs.declared.slot.Use.{Use};
     ghost use Rattle.descriptor_manager.specs.Stores.{AreCleaned, Cleans, FreesSets, IsFreed, KeepsStore};
@@ -139,8 +139,7 @@ impl<L: Drop, P: Drop, S: Drop, D: DescriptorDevice<L, P, S>> Store<L, P, S, D> 
         requires rest { IsAtRest self.old }
         ensures trims { FreesSets (Turns is_kept (MayBecome vacated)) self.old self.new }
         ensures few { (layout : ℕ) → kept_of layout self.new ≤ max }
-        ensures as_many { (layout : ℕ) → KeepsUpTo max (is_kept_of layout) (slots_in self.old)
-            (slots_in self.new) }
+        ensures as_many { (layout : ℕ) → min max (kept_of layout self.old) ≤ kept_of layout self.new }
         ensures settles { SettlesTo (record (settings_of self.old.table) { keep = max }) NoneComes
             self.old self.new }
     {

@@ -1,6 +1,6 @@
 //! Sets that are freed: each is kept, or goes. A set that goes joins the list of those that return to
 //! their pools.
-ghost use Rattle.std.specs.Prelude.{◌≡◌, ◌≢◌, ◌↔◌, ◌+◌, ◌<◌, ◌≤◌, ◌&&◌, ℕ, true, false, IsFalse, IfSome, IsTrue, is_some, length, slice_set, take, List, if◌then◌else◌};
+ghost use Rattle.std.specs.Prelude.{◌≡◌, ◌≢◌, ◌↔◌, ◌+◌, ◌<◌, ◌≤◌, ◌&&◌, ℕ, true, false, IsFalse, IfSome, IsTrue, is_some, length, min, slice_set, take, List, if◌then◌else◌};
 
 use super::SetTable;
 use crate::giving::Group;
@@ -11,7 +11,7 @@ impl<T> SetTable<T> {
     ghost use Rattle.descriptor_table.specs.Sets.{AllFit, AreHeldOnce, is_held};
     ghost use Rattle.descriptor_table.specs.Slots.{IsNowhere, Slot, count, is_due, is_in, is_kept_of, slot_at, waits};
     ghost use Rattle.descriptor_table.specs.Tables.{At, Becomes, CanBeHeld, Changes, HasTaken};
-    ghost use Rattle.descriptor_table.specs.Tables.{IsBack, KeepsUpTo, MayBecome};
+    ghost use Rattle.descriptor_table.specs.Tables.{IsBack, MayBecome};
     ghost use Rattle.descriptor_table.specs.Tables.{Stays, TurnEach, Turns};
     ghost use Rattle.descriptor_table.specs.Tables.{holds, is_kept, removed_of};
     ghost use Rattle.descriptor_table.specs.Tables.{may_stay, next_use, place_at, stays};
@@ -197,7 +197,7 @@ impl<T> SetTable<T> {
         ensures turns { Changes (Turns (is_kept_of layout) (MayBecome (used_for Use.Going))) self.old
             self.new }
         ensures few { count (is_kept_of layout) (slots_of self.new) ≤ max }
-        ensures as_many { KeepsUpTo max (is_kept_of layout) (slots_of self.old) (slots_of self.new) }
+        ensures as_many { min max (count (is_kept_of layout) (slots_of self.old)) ≤ count (is_kept_of layout) (slots_of self.new) }
     {
         while self.count(Group::KeptOf(layout)) > max {
             match self.pick(Group::KeptOf(layout)) {
@@ -211,8 +211,8 @@ impl<T> SetTable<T> {
     pub fn trim(&mut self, max: u32)
         ensures turns { Changes (Turns is_kept (MayBecome (used_for Use.Going))) self.old self.new }
         ensures few { (layout : ℕ) → count (is_kept_of layout) (slots_of self.new) ≤ max }
-        ensures as_many { (layout : ℕ) → KeepsUpTo max (is_kept_of layout) (slots_of self.old)
-            (slots_of self.new) }
+        ensures as_many { (layout : ℕ) → min max (count (is_kept_of layout) (slots_of self.old))
+            ≤ count (is_kept_of layout) (slots_of self.new) }
     {
         for layout in 0..self.lists.kept.len() {
             self.trim_layout(layout, max);

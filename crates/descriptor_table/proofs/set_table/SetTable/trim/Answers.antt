@@ -1,4 +1,4 @@
-use Rattle.descriptor_table.proofs.Common.{◌≤◌, ◌+◌, inl, inr, sym, subst, ap, arith, get_or_past, length-map, cases_eq, cases_lt, count, is_kept_of, shown, Settings, slots_of, chains_in, Chain}
+use Rattle.descriptor_table.proofs.Common.{◌≤◌, ◌+◌, inl, inr, sym, subst, ap, arith, get_or_past, length-map, cases_eq, cases_lt, count, is_kept_of, min, shown, Settings, slots_of, chains_in, Chain}
 use Rattle.descriptor_table.proofs.Counts.{chain_counts}
 use Rattle.descriptor_table.proofs.Turning.{stays_more, trim_more, trim_others}
 use Rattle.descriptor_table.proofs.set_table.SetTable.trim.Goals as goal
@@ -18,9 +18,9 @@ loop-layout-preserved g c =
         | inl same ↦ subst (λ j. count (is_kept_of j) new ≤ c.args.max) (sym same) e.few
         | inr ne ↦ (let a = trim_others (k + 2) two now new e.turns.slots (j + 2) (omega arith) (λ e. ne (omega arith)) in let b = inv.few j (omega arith) in omega arith)
       ];
-      enough = λ j n le has. elim (cases_eq j k) [
-        | inl same ↦ subst (λ j. n ≤ count (is_kept_of j) new) (sym same) (e.as_many n le (inv.enough k n le (subst (λ j. n ≤ count (is_kept_of j) old) same has)))
-        | inr ne ↦ (let a = trim_others (k + 2) two now new e.turns.slots (j + 2) (omega arith) (λ e. ne (omega arith)) in let b = inv.enough j n le has in omega arith)
+      enough = λ j. elim (cases_eq j k) [
+        | inl same ↦ subst (λ j. min c.args.max (count (is_kept_of j) old) ≤ count (is_kept_of j) new) (sym same) (omega (arith, e.as_many, inv.enough k))
+        | inr ne ↦ omega (arith, trim_others (k + 2) two now new e.turns.slots (j + 2) (omega arith) (λ e. ne (omega arith)), inv.enough j)
       ];
       stays = stays_more c.args.self.now c.loop-layout.self c.trim_layout.new.self inv.stays e.turns.stays;
     }

@@ -22,6 +22,6 @@ loop-self-preserved g c =
     let out = λ (s : Slot g.row.T.Denot). going_out (c.args.layout + 2) s (omega arith) in
     record {
       turning = go_step (is_kept_of c.args.layout) now mid new c.in-Some.place picks.slots c.let_go.ensures.slots out (slots_of c.args.self.now) inv.turning;
-      enough = λ n le has. omega (arith, c.count.ensures, c.loop-self-test.true, go_less (is_kept_of c.args.layout) now mid new c.in-Some.place picks.slots c.let_go.ensures.slots out, inv.enough n le has);
+      enough = omega (arith, c.count.ensures, c.loop-self-test.true, go_less (is_kept_of c.args.layout) now mid new c.in-Some.place picks.slots c.let_go.ensures.slots out, inv.enough);
       stays = stays_more c.args.self.now c.loop-self.self c.let_go.new.self inv.stays (stays_more c.loop-self.self c.pick.new.self c.let_go.new.self picks.stays c.let_go.ensures.stays);
     }
