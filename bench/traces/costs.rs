@@ -21,8 +21,7 @@ impl<'a> Scene<'a> {
     fn new(device: &'a CountingDevice, size: u32) -> Self {
         let mut manager = SetManager::new(device, u32::MAX);
         let layouts: Vec<_> = (0..size).map(|at| add_layout(&mut manager, at)).collect();
-        let live = layouts.iter().map(|it| manager.allocate(*it).unwrap());
-        let live = live.collect();
+        let live = layouts.iter().map(|it| manager.allocate(*it).unwrap()).collect();
         Scene { manager, layouts, live }
     }
 
@@ -54,18 +53,19 @@ impl<'a> Scene<'a> {
         self.manager.remove_layout(layout).unwrap();
     }
 
-    /// A set is destroyed after a new frame, which isn't done.
+    /// A set is destroyed after a new frame, then one after the frame before it. Neither is done.
     fn waits(&mut self) {
         let frame = self.manager.begin_frame().unwrap();
-        let set = self.manager.allocate(self.layouts[0]).unwrap();
-        self.manager.free_after(&[set], frame).unwrap();
+        for frame in [frame, frame - 1] {
+            let set = self.manager.allocate(self.layouts[0]).unwrap();
+            self.manager.free_after(&[set], frame).unwrap();
+        }
         self.manager.end_frame();
     }
 
     /// A set that stays.
     fn grown(&mut self) {
-        let set = self.manager.allocate(self.layouts[0]).unwrap();
-        self.live.push(set);
+        self.live.push(self.manager.allocate(self.layouts[0]).unwrap());
     }
 
     /// A layout that stays.
@@ -82,26 +82,21 @@ fn add_layout(manager: &mut SetManager<(), u64, u64, &CountingDevice>, sampler: 
 }
 
 fn main() {
-    let words: Vec<_> = std::env::args().skip(1).collect();
-    let [name, operations] = &words[..] else {
+    let [_, name, operations] = &std::env::args().collect::<Vec<_>>()[..] else {
         panic!("the arguments are a name and a number");
     };
-    let operations: u32 = operations.parse().expect("a number");
-    let device = CountingDevice::new(u64::MAX);
-    let are_few = matches!(name.as_str(), "waits" | "grown" | "layout");
-    let mut scene = Scene::new(&device, if are_few { 1 } else { MANY });
-    let operation = match name.as_str() {
-        "kept" => Scene::kept,
-        "frame" => Scene::frame,
-        "removed" => Scene::removed,
-        "waits" => Scene::waits,
-        "grown" => Scene::grown,
-        "layout" => Scene::layout,
+    let (size, operation): (_, fn(&mut _)) = match name.as_str() {
+        "kept" => (MANY, Scene::kept),
+        "frame" => (MANY, Scene::frame),
+        "removed" => (MANY, Scene::removed),
+        "waits" => (1, Scene::waits),
+        "grown" => (1, Scene::grown),
+        "layout" => (1, Scene::layout),
         _ => panic!("no cost has this name"),
     };
-    for _ in 0..operations {
-        operation(&mut scene);
-    }
+    let device = CountingDevice::new(u64::MAX);
+    let mut scene = Scene::new(&device, size);
+    (0..operations.parse::<u32>().expect("a number")).for_each(|_| operation(&mut scene));
     // SAFETY: the device only counts.
     unsafe { scene.manager.free_all() };
     // SAFETY: the device only counts.

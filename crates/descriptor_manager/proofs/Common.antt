@@ -17,7 +17,7 @@ pub use Rattle.descriptor_manager.specs.declared.manager.SetManager.{SetManager}
 pub use Rattle.descriptor_manager.specs.declared.store.Store.{Store}
 pub use Rattle.descriptor_table.proofs.Chains.{lists_apart, live_no_list}
 pub use Rattle.descriptor_table.proofs.Counts.{count_few, count_none, count_set, none_count, same_count}
-pub use Rattle.descriptor_table.proofs.Holding.{apart_once, has_taken, held_is, named_or}
+pub use Rattle.descriptor_table.proofs.Holding.{held_is, named_or}
 pub use Rattle.descriptor_table.proofs.Leaving.{given_all, given_weigh, group_out, same_sets, tally, tally_length}
 pub use Rattle.descriptor_table.proofs.Listed.{bit, other_slots, past_end, slot_set, test_within}
 pub use Rattle.descriptor_table.proofs.Names.{handles_both, handles_long, handles_written, place_read}
@@ -30,7 +30,7 @@ pub use Rattle.descriptor_table.specs.Slots.{Slot, count, frame_of, goes, in_lis
 pub use Rattle.descriptor_table.specs.Tables.{AreAllUsed, Becomes, Grows, HasLayout, HasRoom, IsBack, MayBecome, Puts, Renews, Settings, TurnEach, Turns, aged, holds, is_held_use, is_kept, is_usable, layouts_of, place_at, removed_as, removed_of, renewed, settings_of, slots_of, used_for, vacated}
 pub use Rattle.descriptor_table.specs.declared.handle.SetHandle.{SetHandle}
 pub use Rattle.descriptor_table.specs.declared.slot.Use.{Use}
-pub use Rattle.descriptor_table.specs.declared.slot.Use.TheVariants.{Going, Held, Kept, Taken, Vacant, Waits}
+pub use Rattle.descriptor_table.specs.declared.slot.Use.TheVariants.{Going, Held, Kept, Vacant, Waits}
 pub use Rattle.gpu_descriptor.proofs.callers.HeldSets.{count_parts}
 pub use Rattle.gpu_descriptor.proofs.request.Passed.{passed}
 pub use Rattle.gpu_descriptor.specs.Caller.SetLayouts.{IsMeant}

@@ -1,6 +1,6 @@
 -- Each kind of change of a slot by which no set comes is one that `Arrives` allows: its set stays or leaves, and is at rest if it was.
 -- For the calls of `Store` by which sets are freed, wait, or go.
-use Rattle.descriptor_manager.proofs.Common.{common_steps, ◌≡◌, ℕ, Bool, true, false, List, length, is_some, inl, inr, subst, arith, Slot, goes, in_list, slot_at, TurnEach, Turns, place_at, used_for, vacated, IsBack, SetHandle, Use, Waits, named_or, is_placed}
+use Rattle.descriptor_manager.proofs.Common.{common_steps, ◌≡◌, ℕ, Bool, true, false, List, length, is_some, inl, inr, refl, ap, subst, arith, Slot, goes, in_list, slot_at, TurnEach, Turns, place_at, used_for, vacated, IsBack, SetHandle, Use, Waits, named_or, is_placed}
 use Rattle.descriptor_manager.proofs.Arriving.{Arrives, placed_in, same_arrives}
 
 -- a set that is held, waits or is kept doesn't go
@@ -37,3 +37,7 @@ module _ {T : Type 0} where
       | inl found ↦ subst (λ p. Arrives comes (slot_at old p) (slot_at new p)) found.2 (each _ _ (turns.named found.0 found.1))
       | inr apart ↦ same_arrives comes _ _ (turns.rest p apart)
     ]
+
+    pub follow_any : {handles : List SetHandle} {becomes : List (Slot T) → Slot T → Slot T → Type 0} {old new : List (Slot T)} (b : Bool) → (b ≡ true → TurnEach handles becomes old new) → (b ≡ false → new ≡ old) → ((o n : Slot T) → becomes new o n → Arrives comes o n) → (p : ℕ) → Arrives comes (slot_at old p) (slot_at new p)
+    follow_any false turns none each p = same_arrives comes _ _ (ap (λ l. slot_at l p) (none refl))
+    follow_any true turns none each p = follow_each (turns refl) each p

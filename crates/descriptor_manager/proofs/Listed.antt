@@ -1,6 +1,6 @@
 -- Held sets that are freed by their handles: for `Store::wait_each` and `free_each`.
-use Rattle.descriptor_manager.proofs.Common.{common_steps, arith, ◌≡◌, ℕ, ◌+◌, ◌<◌, Bool, true, false, List, get_or, length, is_some, inl, inr, refl, rules, ap, subst, ◌∙◌, AreHeldOnce, sets_in, Slot, goes, slot_at, Becomes, IsBack, TurnEach, Turns, place_at, used_for, vacated, SetHandle, Waits}
-use Rattle.descriptor_manager.proofs.Common.{Going, Taken, held_is, named_or, same_sets}
+use Rattle.descriptor_manager.proofs.Common.{arith, ◌≡◌, ℕ, ◌+◌, ◌<◌, Bool, true, false, List, get_or, length, is_some, inl, inr, refl, ap, subst, ◌∙◌, AreHeldOnce, sets_in, Slot, goes, slot_at, Becomes, IsBack, TurnEach, Turns, place_at, used_for, vacated, SetHandle}
+use Rattle.descriptor_manager.proofs.Common.{Going, held_is, named_or, same_sets}
 use Rattle.descriptor_manager.proofs.Back.{given_kept, kept_stays}
 use Rattle.descriptor_manager.proofs.Following.{ArePlaced, none_goes}
 
@@ -11,16 +11,12 @@ each_sets {handles = handles} {old = old} {new} turns same = same_sets old new t
   | inr apart ↦ ap (λ (s : Slot _). s.set) (turns.rest p apart)
 ])
 
--- sets that were taken, and then wait
-pub waited : {T : Type 0} {handles : List SetHandle} {frame : ℕ} {old now new : List (Slot T)} → TurnEach handles (Becomes (used_for Taken)) old now → TurnEach handles (Becomes (used_for (Waits frame))) now new → TurnEach handles (Becomes (used_for (Waits frame))) old new
-waited took waits = grind (arith, common_steps)
+-- also if none turned
+pub any_sets : {T : Type 0} {handles : List SetHandle} {becomes : List (Slot T) → Slot T → Slot T → Type 0} {old new : List (Slot T)} (b : Bool) → (b ≡ true → TurnEach handles becomes old new) → (b ≡ false → new ≡ old) → ((o n : Slot T) → becomes new o n → n.set ≡ o.set) → sets_in new ≡ sets_in old
+any_sets false turns none same = ap sets_in (none refl)
+any_sets true turns none same = each_sets (turns refl) same
 
 module _ {T : Type 0} (handles : List SetHandle) (number : ℕ) (removed : ℕ → Bool) (max : ℕ) (old mid : List (Slot T)) where
-  -- held sets that settled, if any did, are in their slots still
-  pub settled_each : (b : Bool) → (b ≡ true → TurnEach handles (IsBack (used_for Going) removed max) old mid) → (b ≡ false → mid ≡ old) → sets_in mid ≡ sets_in old
-  settled_each false settled none = ap sets_in (none refl)
-  settled_each true settled none = each_sets (settled refl) (search rules)
-
   -- those that went were returned
   pub back_each : (new : List (Slot T)) → AreHeldOnce number old handles → TurnEach handles (IsBack (used_for Going) removed max) old mid → ArePlaced old → Turns goes (Becomes vacated) mid new → TurnEach handles (IsBack vacated removed max) old new
   back_each new once settled placed gives = record {

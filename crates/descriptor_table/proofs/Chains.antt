@@ -1,10 +1,10 @@
 -- The lists of slots, by the code's chains: for `SetTable::pick`, `link`, `settle` and others. No slot is in two lists (`lists_apart`),
 -- and one that waits is in none. `pick` takes a slot out of a list, `link` puts it into one.
-use Rattle.descriptor_table.proofs.Common.{common_steps, ◌≡◌, ◌≢◌, ℕ, suc, ◌+◌, ◌-◌, ◌<◌, ◌≤◌, ◌&&◌, Bool, true, false, List, ◌∷◌, length, get_or, set, is_some, refl, sym, ap, ◌∙◌, arith, rules, get_or-set_same, length-set, false≢true, true≢false, walk, AreLinked, IsListed, IsNowhere, Lists}
+use Rattle.descriptor_table.proofs.Common.{common_steps, ◌≡◌, ◌≢◌, ℕ, suc, ◌+◌, ◌-◌, ◌<◌, ◌≤◌, ◌&&◌, Bool, true, false, List, ◌∷◌, length, get_or, set, is_some, refl, sym, ap, subst, ◌∙◌, arith, rules, get_or-set_same, length-set, false≢true, true≢false, walk, AreLinked, IsListed, IsNowhere, Lists}
 use Rattle.descriptor_table.proofs.Common.{Slot, chain_at, frame_of, in_list, is_in, is_live, slot_at, waits, waits_for, is_held_use, Use, Held, Taken, Chain}
-use Rattle.descriptor_table.proofs.Counting.{walk_after, walk_other}
+use Rattle.descriptor_table.proofs.Counting.{walk_after, walk_agree, walk_length, walk_other}
 use Rattle.descriptor_table.proofs.Counts.{lists_few}
-use Rattle.descriptor_table.proofs.Listed.{first_passes, lists_other, lists_pop, lists_push, not_listed, one_none, test_within, walk_length}
+use Rattle.descriptor_table.proofs.Listed.{first_passes, lists_other, lists_pop, lists_push, not_listed, one_none, test_within}
 
 pub and_true : (a b : Bool) → (a && b) ≡ true → (a ≡ true) × (b ≡ true)
 and_true x0 x1 e = grind (arith, common_steps)
@@ -57,6 +57,10 @@ module _ {T : Type 0} where
   abbrev pub HasLists : List (Slot T) → ℕ → Type 0
   HasLists slots layouts = (p : ℕ) → p < length slots → IsListed layouts (slot_at slots p)
 
+  -- the nexts of slots that don't wait are as they were
+  abbrev pub Agree : List (Slot T) → List ℕ → List ℕ → Type 0
+  Agree slots next next' = (q : ℕ) → waits (slot_at slots q) ≡ false → get_or next' q 0 ≡ get_or next q 0
+
   pub lists_set : (slots : List (Slot T)) (p : ℕ) (s : Slot T) (layouts : ℕ) → HasLists slots layouts → p < length slots → IsListed layouts s → HasLists (set slots p s) layouts
   lists_set slots p s layouts known within here q lt = grind (arith, common_steps, length-set)
 
@@ -65,13 +69,13 @@ module _ {T : Type 0} (slots : List (Slot T)) (next : List ℕ) (chains : List C
   abbrev places : ℕ → List ℕ
   places k = walk (chain_at chains k).count next (chain_at chains k).first
 
-  -- no slot is in a list that has none
-  pub none_in : (k : ℕ) → (chain_at chains k).count ≡ 0 → (p : ℕ) → is_in k (slot_at slots p) ≡ false
-  none_in k e p = search (rules, one_none)
-
   -- a slot that is in no list comes to none
   pub out_linked : (p : ℕ) (s : Slot T) → p < length slots → ((k : ℕ) → is_in k (slot_at slots p) ≡ false) → ((k : ℕ) → is_in k s ≡ false) → AreLinked (set slots p s) next chains
   out_linked p s within was now k = lists_other (is_in k) slots p s (places k) (h k) within (now k ∙ sym (was k))
+
+  -- nothing but the nexts of slots that wait changed
+  pub linked_still : (next' : List ℕ) → Agree slots next next' → AreLinked slots next' chains
+  linked_still next' agree k = subst (Lists (is_in k) slots) (sym (walk_agree (chain_at chains k).count next next' (chain_at chains k).first (λ q has. agree q (search (rules, listed_out k (slot_at slots q), one_none, h k q))))) (h k)
 
   module _ (p : ℕ) (s : Slot T) (within : p < length slots) (idle : IsNowhere (slot_at slots p).used) where
     -- a list that the slot isn't in stays, whatever its next is

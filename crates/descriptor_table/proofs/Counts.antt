@@ -2,9 +2,10 @@
 use Rattle.descriptor_table.proofs.Common.{common_steps, ◌≡◌, ◌≢◌, ℕ, zero, suc, ◌+◌, ◌<◌, ◌≤◌, Bool, true, false, inl, inr, if◌then◌else◌, List, [], ◌∷◌, length, set, refl, ap, ◌∙◌, arith, rules, sym, is_of, list_of, HasList, walk, AreLinked, Lists, chain_at, count, is_in, is_kept_of}
 use Rattle.descriptor_table.proofs.Common.{nexts_in, no_slot, slot_at, removed_of, slots_of, chains_in, Group, SetTable, Slot, Chain, cases_eq, true≢false}
 use Rattle.descriptor_table.proofs.Relisted.{group_there, list_is}
-use Rattle.descriptor_table.proofs.Listed.{bit, walk_length, first_passes, one_none, test_within, lists_pop}
+use Rattle.descriptor_table.proofs.Counting.{walk_length}
+use Rattle.descriptor_table.proofs.Listed.{bit, first_passes, one_none, test_within, lists_pop}
 
-bit_few : (b : Bool) → bit b ≤ 1
+pub bit_few : (b : Bool) → bit b ≤ 1
 bit_few x0 = grind (arith, common_steps)
 
 module _ {T : Type 0} where

@@ -13,7 +13,7 @@ grown f (y ∷ xs) x d zero same = refl
 grown f (y ∷ xs) x d (suc q) same = grown f xs x d q same
 
 -- each list stays with a 0 at the end of the nexts
-walk_grown : (n : ℕ) (next : List ℕ) (first : ℕ) → walk n (next ++ 0 ∷ []) first ≡ walk n next first
+pub walk_grown : (n : ℕ) (next : List ℕ) (first : ℕ) → walk n (next ++ 0 ∷ []) first ≡ walk n next first
 walk_grown zero next first = refl
 walk_grown (suc n) next first = ap (λ y. first ∷ walk n (next ++ 0 ∷ []) y) (grown (λ x. x) next 0 0 first refl) ∙ ap (λ l. first ∷ l) (walk_grown n next (get_or next first 0))
 
@@ -26,8 +26,8 @@ module _ {T : Type 0} where
   pub linked_grown : (slots : List (Slot T)) (next : List ℕ) (chains : List Chain) (s : Slot T) → s.used ≡ Taken → AreLinked slots next chains → AreLinked (slots ++ s ∷ []) (next ++ 0 ∷ []) chains
   linked_grown slots next chains s taken h k q = ap (times q) (walk_grown (chain_at chains k).count next (chain_at chains k).first) ∙ h k q ∙ ap (λ b. if b then 1 else 0) (sym (grown (is_in k) slots s no_slot q (taken_no_list s taken k)))
 
-  pub queue_grown : (slots : List (Slot T)) (l : List ℕ) (newest : ℕ) (s : Slot T) → s.used ≡ Taken → IsQueue slots l newest → IsQueue (slots ++ s ∷ []) l newest
-  queue_grown slots l newest s taken h = search (rules, taken_out, grown (waits {T = T}), grown (λ (s : Slot T). frame_of s.used))
+  pub queue_grown : (slots : List (Slot T)) (l : List ℕ) (last : ℕ) (s : Slot T) → s.used ≡ Taken → IsQueue slots l last → IsQueue (slots ++ s ∷ []) l last
+  queue_grown slots l last s taken h = search (rules, taken_out, grown (waits {T = T}), grown (λ (s : Slot T). frame_of s.used))
 
   -- the layout of each slot has its list, also that of the new slot
   pub known_grown : (slots : List (Slot T)) (s : Slot T) (layouts : ℕ) → IsListed layouts s → HasLists slots layouts → length (slots ++ s ∷ []) ≡ length slots + 1 → HasLists (slots ++ s ∷ []) layouts

@@ -143,10 +143,6 @@ module _ {T : Type 0} where
         )
   ]
 
-  -- a taken set isn't held
-  pub taken_not_held : (l : List (Slot T)) (o x : Slot T) → Becomes (used_for Taken) l o x → x.used ≢ Held
-  taken_not_held l o x is held = true≢false (ap is_held_use (sym held ∙ ap (λ (s : Slot T). s.used) is))
-
   -- sets that a call took, and then settled
   pub taken_settled : (handles : List SetHandle) (removed : ℕ → Bool) (max : ℕ) (old mid new : List (Slot T)) → TurnEach handles (Becomes (used_for Taken)) old mid → TurnEach handles (IsBack (used_for Going) removed max) mid new → TurnEach handles (IsBack (used_for Going) removed max) old new
   taken_settled handles removed max old mid new took back = record {

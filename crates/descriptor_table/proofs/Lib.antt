@@ -8,12 +8,14 @@ pub mod Growing
 pub mod Heads
 pub mod Holding
 pub mod Leaving
+pub mod Linking
 pub mod Listed
 pub mod Named
 pub mod Names
 pub mod Naming
 pub mod Numbers
 pub mod Relisted
+pub mod Reusing
 pub mod Renewing
 pub mod Sound
 pub mod Totals

@@ -109,7 +109,7 @@ module _ {T : Type 0} where
   going_out k s two = ap (λ b. b && is_some s.set) (ne_eqb k 1 (λ e. omega arith))
 
   pub stays_same : (a : SetTable T) → Stays a a
-  stays_same a = record { settings = refl; space = refl; waiting = refl }
+  stays_same a = record { settings = refl; space = refl }
 
   -- as many slots pass the test, if at each place the slot does as before
   pub count_same : (test : Slot T → Bool) (l m : List (Slot T)) → length m ≡ length l → ((p : ℕ) → test (slot_at m p) ≡ test (slot_at l p)) → count test m ≡ count test l

@@ -1,5 +1,5 @@
 -- Slots, and the lists that they are in.
-use Rattle.std.specs.Prelude.{map, slice_set, vec_capacity, Option, Some, ◌≡◌, ℕ, ◌+◌, ◌%◌, ◌<◌, ◌≤◌, ◌==◌, ◌&&◌, nat_le, nat_lt, Bool, true, false, List, [], ◌∷◌, length, ⊤, slice_index_or, if◌then◌else◌, None, is_some, not}
+use Rattle.std.specs.Prelude.{map, slice_set, vec_capacity, MatchOption, Option, Some, ◌≡◌, ℕ, suc, ◌+◌, ◌%◌, ◌<◌, ◌≤◌, ◌==◌, ◌&&◌, nat_le, nat_lt, Bool, true, false, List, [], ◌∷◌, length, ⊤, slice_index_or, if◌then◌else◌, None, is_some, not}
 use Rattle.std.specs.List.Sorted.{IsNonDecreasingBy}
 use Rattle.descriptor_table.specs.Places.{times, users_at, walk}
 use Rattle.descriptor_table.specs.declared.slot.Use.{Use}
@@ -9,6 +9,7 @@ use Rattle.descriptor_table.specs.declared.slot.State.TheVariants as state
 use Rattle.descriptor_table.specs.declared.slot_list.Entry.{Entry}
 use Rattle.descriptor_table.specs.declared.slot_list.SlotList.{SlotList}
 use Rattle.descriptor_table.specs.declared.slot.Chain.{Chain}
+use Rattle.descriptor_table.specs.declared.slot.Queue.{Queue}
 
 -- a place for a set
 pub record Slot (T : Type 0) : Type 0 where
@@ -64,6 +65,14 @@ IsNowhere _ = ⊥
 -- the list of a number, empty if there is none
 abbrev pub chain_at : List Chain → ℕ → Chain
 chain_at chains k = slice_index_or chains k (record { first = 0; count = 0 })
+
+-- the places of a queue
+abbrev pub places_in : List ℕ → Queue → List ℕ
+places_in next q = walk q.list.count next q.list.first
+
+-- the place that comes before the k-th one of a list, none before the first
+abbrev pub IsBefore : List ℕ → ℕ → Option ℕ → Type 0
+IsBefore places k near = MatchOption near (k ≡ 0) (λ p. (i : ℕ) × (i < length places) × (k ≡ suc i) × ((d : ℕ) → slice_index_or places i d ≡ p))
 
 -- whether a list is that of a removed layout, which shows as empty
 abbrev pub is_removed : Chain → Bool
@@ -138,12 +147,12 @@ module _ {T : Type 0} where
   abbrev pub AreLinked : Slots T → List ℕ → List Chain → Type 0
   AreLinked slots next chains = (k : ℕ) → Lists (is_in k) slots (walk (chain_at chains k).count next (chain_at chains k).first)
 
-  -- the queue of the sets that wait for a frame, none for a later one than `newest`
-  pub record IsQueue (slots : Slots T) (places : List ℕ) (newest : ℕ) : Type 0 where
+  -- the queue of the sets that wait for a frame, with this one at its end
+  pub record IsQueue (slots : Slots T) (places : List ℕ) (last : ℕ) : Type 0 where
     pub has : Lists waits slots places
     -- along it no set waits for an earlier frame than the one before it
     pub rises : IsNonDecreasingBy (λ p. frame_of (slot_at slots p).used) places
-    pub bound : (p : ℕ) → waits (slot_at slots p) ≡ true → frame_of (slot_at slots p).used ≤ newest
+    pub ends : (i d : ℕ) → length places ≡ suc i → slice_index_or places i d ≡ last
 
   -- the layout of a slot has a list. A held set is there
   pub record IsListed (layouts : ℕ) (s : Slot T) : Type 0 where
@@ -151,15 +160,13 @@ module _ {T : Type 0} where
     pub full : s.used ≡ Held → is_some s.set ≡ true
 
   -- slots, lists and queue of a table agree
-  pub record AreSound (l : SlotList T) (chains : List Chain) (layouts : ℕ) (waiting : List ℕ) (room keep newest : ℕ) : Type 0 where
+  pub record AreSound (l : SlotList T) (chains : List Chain) (layouts : ℕ) (waiting : Queue) (keep : ℕ) : Type 0 where
     -- fewer than the count that marks the list of a removed layout
     pub size : length (slots_in l) < 4294967295
     -- a greater number marks the set of a layout as aged
     pub numbers : layouts ≤ 2147483648
-    -- one place for each slot, so that a set can wait without an allocation
-    pub fits : length (slots_in l) ≤ room
     pub linked : AreLinked (slots_in l) (nexts_in l) chains
-    pub queue : IsQueue (slots_in l) waiting newest
+    pub queue : IsQueue (slots_in l) (places_in (nexts_in l) waiting) waiting.last
     pub known : (p : ℕ) → p < length (slots_in l) → IsListed layouts (slot_at (slots_in l) p)
     -- at most `keep` sets of a layout are kept
     pub few : (k : ℕ) → 2 ≤ k → (chain_at chains k).count ≤ keep

@@ -1,6 +1,5 @@
 -- How calls change the slots of a table.
 use Rattle.std.specs.Prelude.{◌≡◌, ◌≢◌, ℕ, ◌+◌, ◌-◌, ◌<◌, ◌≤◌, ◌⊎◌, ◌==◌, ◌&&◌, nat_lt, not, Bool, true, false, List, length, slice_index_or, slice_set, vec_capacity, is_some, if◌then◌else◌, Option, Some, None, MatchOption}
-use Rattle.std.specs.VecDeque.{deque_capacity}
 use Rattle.descriptor_table.specs.Slots.{IsNowhere, Slot, Slots, count, slots_in, space_in, filled, is_in, is_kept_of, is_set_of, slot_at}
 use Rattle.descriptor_table.specs.Lists.{layouts_in, removed_in}
 use Rattle.descriptor_table.specs.Users.{HasNumberRoom}
@@ -67,7 +66,6 @@ module _ {T : Type 0} where
   pub record Stays (old new : SetTable T) : Type 0 where
     pub settings : settings_of new ≡ settings_of old
     pub space : space_in new.slots ≡ space_in old.slots
-    pub waiting : deque_capacity new.waiting ≡ deque_capacity old.waiting
 
   -- the slots became what the relation says, and all else is as it was
   pub record Changes (becomes : Slots T → Slots T → Type 0) (old new : SetTable T) : Type 0 where
@@ -100,7 +98,6 @@ module _ {T : Type 0} where
   pub record HasPlaces (n : ℕ) (t : SetTable T) : Type 0 where
     pub few : length (slots_of t) + n < 4294967295
     pub slots : length (slots_of t) + n ≤ space_in t.slots
-    pub waiting : length (slots_of t) + n ≤ deque_capacity t.waiting
 
   -- n more sets can be put without an allocation, into slots that are there first
   abbrev pub HasRoom : ℕ → SetTable T → Type 0

@@ -1,7 +1,6 @@
 //! The table of a set manager's sets. Each set has a slot, and stays there while it is reused.
 ghost use Rattle.std.specs.Prelude.{◌≡◌, ◌+◌, ◌<◌, ◌&&◌, [], length, true, if◌then◌else◌, IfSome, IsOk, None, OnErr, OnOk, false};
 ghost use Rattle.std.specs.Option.{option_copied};
-ghost use Rattle.std.specs.VecDeque.{deque_capacity};
 ghost use Rattle.descriptor_table.specs.Lists.{chains_in, layouts_in, removed_in};
 ghost use Rattle.descriptor_table.specs.Slots.{AreCounted, AreSound, count, no_slot, slot_at, slot_of, slots_in};
 ghost use Rattle.descriptor_table.specs.Users.{users_in};
@@ -14,13 +13,13 @@ mod lists;
 mod sets;
 mod waiting;
 
+use self::waiting::FRAMES;
 use crate::handle::{SetHandle, SetName};
 use crate::lists::Lists;
-use crate::slot::Use;
+use crate::slot::{Chain, Queue, Use};
 use crate::slot_list::{AGED, SlotList};
 use crate::users::LayoutUsers;
 use std::alloc::{AllocError, Global};
-use std::collections::VecDeque;
 
 /// The max number of slots.
 const MAX_SLOTS: u64 = u32::MAX as u64 - 1;
@@ -41,19 +40,18 @@ pub struct SetTable<T> {
     pub(crate) lists: Lists,
     pub(crate) users: LayoutUsers,
 
-    /// The places of the sets that wait for a frame, by rising frame.
-    pub(crate) waiting: VecDeque<u32>,
+    /// The queue of the sets that wait for a frame, by rising frame.
+    pub(crate) waiting: Queue,
 
     /// The max of the kept sets of a layout.
     pub(crate) keep: u32,
 
-    /// No set waits for a later frame than this.
-    pub(crate) newest: u64,
+    /// By the remainder of frames, the place where the last call of `wait_each` put a set into the queue. A set may be gone from there.
+    pub(crate) recent: [u32; FRAMES as usize],
 
     /// For each group the place of the last set that went, after which the next one comes if it still goes.
     pub(crate) near: [u32; GROUPS],
-    ghost sound: { AreSound slots (chains_in lists) (layouts_in lists) waiting.items
-        (deque_capacity waiting) keep newest },
+    ghost sound: { AreSound slots (chains_in lists) (layouts_in lists) waiting keep },
     ghost counted: { AreCounted (slots_in slots) (layouts_in lists) (removed_in lists) (users_in users) },
 }
 
@@ -77,9 +75,12 @@ impl<T> SetTable<T> {
             slots: SlotList::new(alloc),
             lists: Lists::new(alloc),
             users: LayoutUsers::new(alloc),
-            waiting: VecDeque::new(alloc),
+            waiting: Queue {
+                list: Chain::EMPTY,
+                last: 0,
+            },
             keep: u32::MAX,
-            newest: 0,
+            recent: [u32::MAX; FRAMES as usize],
             near: [u32::MAX; GROUPS],
         }
     }
@@ -141,9 +142,6 @@ impl<T> SetTable<T> {
         if places > MAX_SLOTS {
             return Err(AllocError);
         }
-        self.slots.reserve(additional as usize)?;
-        let places = places as usize;
-        self.waiting
-            .reserve(places.saturating_sub(self.waiting.len()))
+        self.slots.reserve(additional as usize)
     }
 }

@@ -111,6 +111,15 @@ pub struct Chain {
     pub(crate) count: u32,
 }
 
+/// A linked list of slots that grows at its end, too.
+#[derive(Clone, Copy)]
+pub struct Queue {
+    pub(crate) list: Chain,
+
+    /// The last slot, if there is one.
+    pub(crate) last: u32,
+}
+
 impl Chain {
     ghost use Rattle.descriptor_table.specs.Slots.{shown};
 

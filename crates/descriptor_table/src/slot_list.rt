@@ -2,6 +2,8 @@
 ghost use Rattle.std.specs.Prelude.{◌≡◌, ◌+◌, ◌<◌, ◌≤◌, [], ◌∷◌, ◌++◌, length, slice_index_or, slice_set};
 ghost use Rattle.std.specs.Prelude.{IfSome, IsOk, OnOk, None, true, if◌then◌else◌};
 
+mod names;
+
 use crate::handle::SetHandle;
 use crate::slot::{State, Use};
 use std::alloc::{AllocError, Global};
@@ -107,7 +109,7 @@ pub struct SlotList<T> {
 
 impl<T> SlotList<T> {
     ghost use Rattle.descriptor_table.specs.Slots.{Writes, filled, frame_of, nexts_in, slot_at, slot_of, slots_in, space_in};
-    ghost use Rattle.descriptor_table.specs.Slots.{no_slot, waits};
+    ghost use Rattle.descriptor_table.specs.Slots.{is_due, no_slot, waits};
     ghost use Rattle.descriptor_table.specs.Sets.{is_last};
     ghost use Rattle.descriptor_table.specs.Tables.{aged, renewed, used_for, vacated};
 
@@ -167,6 +169,26 @@ impl<T> SlotList<T> {
         self.entries[place].frame
     }
 
+    /// Whether the set of a slot waits for this frame or an earlier one.
+    pub(crate) fn is_due(&self, place: u32, frame: u64) -> bool
+        ensures { result ≡ is_due frame (slot_at (slots_in self.now) place) }
+    {
+        match self.get(place) {
+            Some(slot) => slot.set.is_some() && slot.used().waits() && slot.used().frame() <= frame,
+            None => false,
+        }
+    }
+
+    /// The slot that follows one in its list, or 0 if there is no such slot.
+    pub(crate) fn next(&self, place: u32) -> u32
+        ensures { result ≡ slice_index_or (nexts_in self.now) place 0 }
+    {
+        match self.entries.get(place as usize) {
+            Some(slot) => slot.next,
+            None => 0,
+        }
+    }
+
     /// The frame that the set of a slot waits for. It is 0 if it waits for none.
     pub(crate) fn frame_at(&self, place: u32) -> u64
         ensures { result ≡ frame_of (slot_at (slots_in self.now) place).used }
@@ -200,6 +222,17 @@ impl<T> SlotList<T> {
         ensures nexts { nexts_in self.new ≡ nexts_in self.old }
     {
         self.entries[place].set_use(used);
+    }
+
+    /// Makes `next` the slot that follows a slot in its list.
+    #[inline]
+    pub(crate) fn set_next(&mut self, place: usize, next: u32)
+        requires { place < length (slots_in self.old) }
+        ensures slots { slots_in self.new ≡ slots_in self.old }
+        ensures nexts { nexts_in self.new ≡ slice_set (nexts_in self.old) place next }
+        ensures space { space_in self.new ≡ space_in self.old }
+    {
+        self.entries[place].next = next;
     }
 
     /// Changes the use of a slot's set, and makes `next` the slot that follows in its list.

@@ -744,25 +744,23 @@ fn a_request_of_the_whole_limit_frees_kept_sets() {
 /// No memory for a slot: the device isn't asked, and kept sets stay.
 #[test]
 fn a_request_without_memory_for_a_slot_leaves_kept_sets() {
-    for number in 0..2 {
-        let gpu = Gpu::default();
-        let (mut it, layouts) = manager(&gpu, u32::MAX);
-        let four = it.allocate_many(layouts[0], 4).unwrap();
-        free(&mut it, &four);
-        let device_calls = gpu.calls.get();
-        // The slots and the queue of the sets that wait are full.
-        let (answer, calls) = with_refused(number, || it.allocate(layouts[2]));
-        assert_eq!(answer, Err(RequestError::Allocation(OutOfHostMemory)));
-        assert_eq!(calls, number + 1);
-        assert_eq!(
-            (it.counts(), gpu.calls.get()),
-            (counts(0, 0, 4), device_calls)
-        );
-        let set = it.allocate(layouts[2]).unwrap();
-        assert_eq!(it.counts(), counts(1, 0, 4));
-        free(&mut it, &[set]);
-        shutdown(it);
-    }
+    let gpu = Gpu::default();
+    let (mut it, layouts) = manager(&gpu, u32::MAX);
+    let four = it.allocate_many(layouts[0], 4).unwrap();
+    free(&mut it, &four);
+    let device_calls = gpu.calls.get();
+    // The slots are full.
+    let (answer, calls) = with_refused(0, || it.allocate(layouts[2]));
+    assert_eq!(answer, Err(RequestError::Allocation(OutOfHostMemory)));
+    assert_eq!(calls, 1);
+    assert_eq!(
+        (it.counts(), gpu.calls.get()),
+        (counts(0, 0, 4), device_calls)
+    );
+    let set = it.allocate(layouts[2]).unwrap();
+    assert_eq!(it.counts(), counts(1, 0, 4));
+    free(&mut it, &[set]);
+    shutdown(it);
 }
 
 /// An open frame isn't done, whatever is said.

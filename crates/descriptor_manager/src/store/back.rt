@@ -127,11 +127,7 @@ impl<L: Drop, P: Drop, S: Drop, D: DescriptorDevice<L, P, S>> Store<L, P, S, D> 
         ensures side { side_of self.new ≡ side_of self.old }
         ensures settles { Settles NoneComes self.old self.new }
     {
-        if !self.table.take_each(names) {
-            return false;
-        }
-        self.table.wait_each(names, frame);
-        true
+        self.table.wait_each(names, frame)
     }
 
     /// Sets how many sets of a layout are kept at most. Those above `max` return to their pools.

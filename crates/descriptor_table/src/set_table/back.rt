@@ -144,25 +144,11 @@ impl<T> SetTable<T> {
         true
     }
 
-    /// Lets the sets of `names` wait for a frame. A call has taken them.
-    pub fn wait_each<N: SetName<T>>(&mut self, names: &[N], frame: u64)
-        requires apart { (i j : ℕ) → i < j → j < length (N.handles_of names.now)
-            → place_at (N.handles_of names.now) i ≢ place_at (N.handles_of names.now) j }
-        requires taken { (i : ℕ) → i < length (N.handles_of names.now)
-            → HasTaken (place_at (N.handles_of names.now) i) (slots_of self.old) }
-        ensures { Changes (TurnEach (N.handles_of names.now) (Becomes (used_for (Use.Waits frame))))
-            self.old self.new }
-    {
-        for index in 0..names.len() {
-            self.wait(names[index].handle().place as usize, frame);
-        }
-    }
-
     /// Lets all sets that wait for a frame go.
     pub fn let_waiting_go(&mut self)
         ensures { Changes (Turns waits (Becomes (used_for Use.Going))) self.old self.new }
     {
-        while let Some(place) = self.pick_due(self.newest) {
+        while let Some(place) = self.pick_waiting() {
             self.let_go(place);
         }
     }

@@ -34,6 +34,6 @@ impl<T> SetTable<T> {
     pub fn waiting_total(&self) -> u64
         ensures { result ≡ count waits (slots_of self.now) }
     {
-        self.waiting.len() as u64
+        u64::from(self.waiting.list.count)
     }
 }

@@ -34,15 +34,9 @@ impl<T> SetTable<T> {
         ensures none { IsFalse result → slots_of self.new ≡ slots_of self.old }
         ensures stays { Stays self.old self.new }
     {
-        for index in 0..names.len() {
-            let name = &names[index];
-            if !self.holds(name) {
-                self.put_back(names, index);
-                return false;
-            }
-            self.assign(name.handle().place as usize, Use::Taken);
-        }
-        true
+        self.slots
+            .use_each(self.number, names, Use::Taken)
+            .is_some()
     }
 
     /// Holds the sets of the first `count` names again, the last one first.

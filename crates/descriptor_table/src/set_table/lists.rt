@@ -117,13 +117,7 @@ impl<T> SetTable<T> {
             generation,
         };
         let name = N::of(handle, self.slots.at(place as usize).set.as_ref());
-        enqueue(
-            &mut self.waiting,
-            &mut self.newest,
-            &self.slots,
-            place,
-            used,
-        );
+        enqueue(&mut self.slots, &mut self.waiting, place, used);
         name
     }
 

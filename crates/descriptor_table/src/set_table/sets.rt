@@ -85,13 +85,7 @@ impl<T> SetTable<T> {
         let name = N::of(handle, Some(&set));
         self.slots.fill(place as usize, handle.generation, layout, group, set, used);
         self.users.join(layout as usize);
-        enqueue(
-            &mut self.waiting,
-            &mut self.newest,
-            &self.slots,
-            place,
-            used,
-        );
+        enqueue(&mut self.slots, &mut self.waiting, place, used);
         name
     }
 

@@ -9,13 +9,13 @@ mod lists;
 mod sets;
 mod waiting;
 
+use self::waiting::FRAMES;
 use crate::descriptor_table::handle::{SetHandle, SetName};
 use crate::descriptor_table::lists::Lists;
-use crate::descriptor_table::slot::Use;
+use crate::descriptor_table::slot::{Chain, Queue, Use};
 use crate::descriptor_table::slot_list::{AGED, SlotList};
 use crate::descriptor_table::users::LayoutUsers;
 use crate::kit::alloc::{AllocError, Global};
-use crate::kit::collections::VecDeque;
 
 /// The max number of slots.
 const MAX_SLOTS: u64 = u32::MAX as u64 - 1;
@@ -35,14 +35,14 @@ pub struct SetTable<T> {
     pub(crate) lists: Lists,
     pub(crate) users: LayoutUsers,
 
-    /// The places of the sets that wait for a frame, by rising frame.
-    pub(crate) waiting: VecDeque<u32>,
+    /// The queue of the sets that wait for a frame, by rising frame.
+    pub(crate) waiting: Queue,
 
     /// The max of the kept sets of a layout.
     pub(crate) keep: u32,
 
-    /// No set waits for a later frame than this.
-    pub(crate) newest: u64,
+    /// By the remainder of frames, the place where the last call of `wait_each` put a set into the queue. A set may be gone from there.
+    pub(crate) recent: [u32; FRAMES as usize],
 
     /// For each group the place of the last set that went, after which the next one comes if it still goes.
     pub(crate) near: [u32; GROUPS],
@@ -57,9 +57,12 @@ impl<T> SetTable<T> {
             slots: SlotList::new(alloc),
             lists: Lists::new(alloc),
             users: LayoutUsers::new(alloc),
-            waiting: VecDeque::new(alloc),
+            waiting: Queue {
+                list: Chain::EMPTY,
+                last: 0,
+            },
             keep: u32::MAX,
-            newest: 0,
+            recent: [u32::MAX; FRAMES as usize],
             near: [u32::MAX; GROUPS],
         }
     }
@@ -108,9 +111,6 @@ impl<T> SetTable<T> {
         if places > MAX_SLOTS {
             return Err(AllocError);
         }
-        self.slots.reserve(additional as usize)?;
-        let places = places as usize;
-        self.waiting
-            .reserve(places.saturating_sub(self.waiting.len()))
+        self.slots.reserve(additional as usize)
     }
 }

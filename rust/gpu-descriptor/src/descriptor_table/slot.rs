@@ -104,6 +104,15 @@ pub struct Chain {
     pub(crate) count: u32,
 }
 
+/// A linked list of slots that grows at its end, too.
+#[derive(Clone, Copy)]
+pub struct Queue {
+    pub(crate) list: Chain,
+
+    /// The last slot, if there is one.
+    pub(crate) last: u32,
+}
+
 impl Chain {
     /// A list without slots.
     pub(crate) const EMPTY: Self = Chain { first: 0, count: 0 };

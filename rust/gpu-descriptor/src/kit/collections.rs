@@ -88,30 +88,6 @@ impl<T> VecDeque<T> {
         self.0.push_back(value);
     }
 
-    /// `items`, `len`: the value is first. `capacity`: it stays.
-    #[inline]
-    pub fn push_front_reserved(&mut self, value: T) {
-        assert!(self.0.len() < self.0.capacity(), "{NOT_RESERVED}");
-        self.0.push_front(value);
-    }
-
-    /// `items`: the first `count` items go behind the others. `len`, `capacity`: they stay. There are as
-    /// many; else a panic.
-    pub fn rotate_left(&mut self, count: usize) {
-        self.0.rotate_left(count);
-    }
-
-    /// `items`: the last `count` items go before the others. `len`, `capacity`: they stay. There are as
-    /// many; else a panic.
-    pub fn rotate_right(&mut self, count: usize) {
-        self.0.rotate_right(count);
-    }
-
-    /// `bound`, `partitioned`: the first place whose item `pred` refuses.
-    pub fn partition_point(&self, pred: impl FnMut(&T) -> bool) -> usize {
-        self.0.partition_point(pred)
-    }
-
     /// `items`, `len`: the value is at its place; or `value_returned`, `unchanged`. `full`: it fails only
     /// if capacity was missing.
     pub fn insert(&mut self, index: usize, value: T) -> Result<(), AllocFailed<T>> {
@@ -160,10 +136,9 @@ mod tests {
             queue.push_back_reserved(item);
         }
         assert_eq!((queue.pop_front(), queue.pop_back()), (Some(1), Some(3)));
-        queue.push_front_reserved(0);
-        queue.reserve(1).unwrap();
+        queue.reserve(2).unwrap();
         assert_eq!(queue.0.capacity(), capacity);
-        assert_eq!(items(&queue), [0, 2]);
+        assert_eq!(items(&queue), [2]);
     }
 
     #[test]
@@ -181,38 +156,6 @@ mod tests {
     #[should_panic = "no memory was reserved"]
     fn a_push_without_capacity() {
         VecDeque::new(Global).push_back_reserved(1);
-    }
-
-    #[test]
-    #[should_panic = "no memory was reserved"]
-    fn a_push_in_front_without_capacity() {
-        VecDeque::new(Global).push_front_reserved(1);
-    }
-
-    #[test]
-    fn a_rotation_moves_one_end_to_the_other() {
-        let mut queue = VecDeque::new(Global);
-        queue.reserve(5).unwrap();
-        let capacity = queue.0.capacity();
-        (1..=5).for_each(|item| queue.push_back_reserved(item));
-        queue.rotate_left(2);
-        assert_eq!(items(&queue), [3, 4, 5, 1, 2]);
-        queue.rotate_right(3);
-        assert_eq!(items(&queue), [5, 1, 2, 3, 4]);
-        assert_eq!(queue.0.capacity(), capacity);
-    }
-
-    #[test]
-    fn a_partition_point_is_the_first_place_that_is_refused() {
-        let mut queue = VecDeque::new(Global);
-        queue.reserve(9).unwrap();
-        (0..9).for_each(|item| queue.push_back_reserved(item));
-        // The items go around the end of their memory.
-        queue.rotate_left(4);
-        (0..4).for_each(|_| queue.rotate_right(1));
-        for place in 0..=9 {
-            assert_eq!(queue.partition_point(|item| *item < place), place as usize);
-        }
     }
 
     #[test]

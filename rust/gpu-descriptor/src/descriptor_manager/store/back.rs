@@ -70,11 +70,7 @@ impl<L, P, S, D: DescriptorDevice<L, P, S>> Store<L, P, S, D> {
         frame: u64,
     ) -> bool
     {
-        if !self.table.take_each(names) {
-            return false;
-        }
-        self.table.wait_each(names, frame);
-        true
+        self.table.wait_each(names, frame)
     }
 
     /// Sets how many sets of a layout are kept at most. Those above `max` return to their pools.

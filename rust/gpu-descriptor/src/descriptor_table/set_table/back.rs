@@ -92,18 +92,10 @@ impl<T> SetTable<T> {
         true
     }
 
-    /// Lets the sets of `names` wait for a frame. A call has taken them.
-    pub fn wait_each<N: SetName<T>>(&mut self, names: &[N], frame: u64)
-    {
-        for index in 0..names.len() {
-            self.wait(names[index].handle().place as usize, frame);
-        }
-    }
-
     /// Lets all sets that wait for a frame go.
     pub fn let_waiting_go(&mut self)
     {
-        while let Some(place) = self.pick_due(self.newest) {
+        while let Some(place) = self.pick_waiting() {
             self.let_go(place);
         }
     }

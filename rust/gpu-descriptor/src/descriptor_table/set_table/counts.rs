@@ -26,6 +26,6 @@ impl<T> SetTable<T> {
     #[inline]
     pub fn waiting_total(&self) -> u64
     {
-        self.waiting.len() as u64
+        u64::from(self.waiting.list.count)
     }
 }

@@ -18,15 +18,9 @@ impl<T> SetTable<T> {
     /// it takes none and returns `false`.
     pub fn take_each<N: SetName<T>>(&mut self, names: &[N]) -> bool
     {
-        for index in 0..names.len() {
-            let name = &names[index];
-            if !self.holds(name) {
-                self.put_back(names, index);
-                return false;
-            }
-            self.assign(name.handle().place as usize, Use::Taken);
-        }
-        true
+        self.slots
+            .use_each(self.number, names, Use::Taken)
+            .is_some()
     }
 
     /// Holds the sets of the first `count` names again, the last one first.

@@ -2,83 +2,157 @@
 //! The queue of the sets that wait for a frame.
 
 use super::SetTable;
-use crate::descriptor_table::slot::Use;
+use crate::descriptor_table::handle::SetName;
+use crate::descriptor_table::slot::{Chain, Queue, Use};
 use crate::descriptor_table::slot_list::SlotList;
-use crate::kit::collections::VecDeque;
 
-/// Puts a place into the queue. Only later ones move, or only earlier ones if these are fewer.
-#[inline]
-fn put_place(waiting: &mut VecDeque<u32>, at: usize, place: u32)
+/// For how many frames a table knows where the last call put a set.
+pub(super) const FRAMES: u64 = 8;
+
+/// A place in the queue of a set that waits for this frame or an earlier one: `hint`, or the first one. `None`
+/// if there is none.
+fn start<T>(slots: &SlotList<T>, queue: Queue, hint: u32, frame: u64) -> Option<u32>
 {
-    let later = waiting.len() - at;
-    if later == 0 {
-        waiting.push_back_reserved(place);
-        return;
+    if slots.is_due(hint, frame) {
+        return Some(hint);
     }
-    waiting.rotate_right(later);
-    waiting.push_back_reserved(place);
-    waiting.rotate_left(later);
+    if slots.frame_at(queue.list.first) > frame {
+        return None;
+    }
+    Some(queue.list.first)
 }
 
-/// Puts a slot into the queue whose set comes to wait for a frame before the newest. It is out of line, so
-/// that a set for the newest saves no registers for it.
+/// The last place in the queue of a set that waits for this frame or an earlier one, while the last set waits
+/// for a later one. It walks from `hint` on, or else from the first place.
 #[inline(never)]
-fn enqueue_earlier<T>(waiting: &mut VecDeque<u32>, slots: &SlotList<T>, place: u32, frame: u64)
+fn earlier_place<T>(slots: &SlotList<T>, queue: Queue, hint: u32, frame: u64) -> Option<u32>
 {
-    let at = waiting.partition_point(|place: &u32| slots.frame_at(*place) <= frame);
-    put_place(waiting, at, place);
+    let Some(mut near) = start(slots, queue, hint, frame) else {
+        return None;
+    };
+    for _ in 1..queue.list.count {
+        if near == queue.last {
+            return Some(near);
+        }
+        let next = slots.next(near);
+        if slots.frame_at(next) > frame {
+            return Some(near);
+        }
+        near = next;
+    }
+    Some(near)
+}
+
+/// The place in the queue after which a set comes that waits for this frame. `None` if it comes first.
+#[inline]
+fn place_before<T>(slots: &SlotList<T>, queue: Queue, hint: u32, frame: u64) -> Option<u32>
+{
+    if queue.list.count == 0 {
+        return None;
+    }
+    if slots.frame(queue.last as usize) <= frame {
+        return Some(queue.last);
+    }
+    earlier_place(slots, queue, hint, frame)
+}
+
+/// Puts sets into the queue after a place, or first. They are linked as in a queue of their own.
+#[inline]
+fn insert<T>(slots: &mut SlotList<T>, queue: &mut Queue, near: Option<u32>, sets: Queue)
+{
+    match near {
+        Some(near) => {
+            if near == queue.last {
+                queue.last = sets.last;
+            } else {
+                slots.set_next(sets.last as usize, slots.at(near as usize).next);
+            }
+            slots.set_next(near as usize, sets.list.first);
+        }
+        None => {
+            slots.set_next(sets.last as usize, queue.list.first);
+            queue.list.first = sets.list.first;
+            if queue.list.count == 0 {
+                queue.last = sets.last;
+            }
+        }
+    }
+    queue.list.count += sets.list.count;
 }
 
 /// Puts a slot into the queue whose set came to this use, if a set in it waits for a frame.
 #[inline]
-pub(super) fn enqueue<T>(
-    waiting: &mut VecDeque<u32>,
-    newest: &mut u64,
-    slots: &SlotList<T>,
-    place: u32,
-    used: Use,
-)
+pub(super) fn enqueue<T>(slots: &mut SlotList<T>, queue: &mut Queue, place: u32, used: Use)
 {
     if !used.waits() {
         return;
     }
-    let frame = used.frame();
-    if *newest != frame {
-        if *newest > frame {
-            enqueue_earlier(waiting, slots, place, frame);
-            return;
-        }
-        *newest = frame;
-    }
-    waiting.push_back_reserved(place);
+    let near = place_before(slots, *queue, u32::MAX, used.frame());
+    let set = Queue {
+        list: Chain {
+            first: place,
+            count: 1,
+        },
+        last: place,
+    };
+    insert(slots, queue, near, set);
 }
 
 impl<T> SetTable<T> {
-    /// Lets the set at a place, which a call has taken, wait for a frame.
-    #[inline]
-    pub(super) fn wait(&mut self, place: usize, frame: u64)
+    /// Lets the held sets of `names` wait for a frame, all or none. If a name has no held set, or is in the list
+    /// twice, none does, and it returns `false`.
+    pub fn wait_each<N: SetName<T>>(&mut self, names: &[N], frame: u64) -> bool
     {
-        let used = Use::Waits(frame);
-        self.slots.set_use(place, used);
-        enqueue(
-            &mut self.waiting,
-            &mut self.newest,
-            &self.slots,
-            place as u32,
-            used,
-        );
+        let Some(name) = names.first() else {
+            return true;
+        };
+        let last = name.handle().place;
+        let recent = (frame % FRAMES) as usize;
+        let near = place_before(&self.slots, self.waiting, self.recent[recent], frame);
+        let Some(first) = self.slots.use_each(self.number, names, Use::Waits(frame)) else {
+            return false;
+        };
+        let count = names.len() as u32;
+        let sets = Queue {
+            list: Chain { first, count },
+            last,
+        };
+        insert(&mut self.slots, &mut self.waiting, near, sets);
+        self.recent[recent] = last;
+        true
+    }
+
+    /// Takes the first set out of the queue.
+    #[inline]
+    fn take_first(&mut self) -> usize
+    {
+        let place = self.waiting.list.first as usize;
+        let next = self.slots.at(place).next;
+        self.waiting.list.pop(next);
+        self.slots.set_use(place, Use::Taken);
+        place
+    }
+
+    /// Takes a set that waits for a frame, if there is one.
+    #[inline]
+    pub(super) fn pick_waiting(&mut self) -> Option<usize>
+    {
+        if self.waiting.list.count == 0 {
+            return None;
+        }
+        Some(self.take_first())
     }
 
     /// Takes a set that waits for a frame up to this one, if there is one.
     #[inline]
     pub(super) fn pick_due(&mut self, frame: u64) -> Option<usize>
     {
-        let first = self.waiting.pop_front()?;
-        if self.slots.frame(first as usize) > frame {
-            self.waiting.push_front_reserved(first);
+        if self.waiting.list.count == 0 {
             return None;
         }
-        self.slots.set_use(first as usize, Use::Taken);
-        Some(first as usize)
+        if self.slots.frame(self.waiting.list.first as usize) > frame {
+            return None;
+        }
+        Some(self.take_first())
     }
 }

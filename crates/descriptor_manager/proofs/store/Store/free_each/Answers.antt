@@ -1,7 +1,7 @@
 use Rattle.descriptor_manager.proofs.Common.{◌∙◌, refl, rules, IsBack, TurnEach, removed_of, slots_of, vacated}
 use Rattle.descriptor_manager.proofs.Given.{accounted_as, exact_as}
 use Rattle.descriptor_manager.proofs.Following.{follow_each, follows_back}
-use Rattle.descriptor_manager.proofs.Listed.{back_each, settled_each}
+use Rattle.descriptor_manager.proofs.Listed.{any_sets, back_each}
 use Rattle.descriptor_manager.proofs.Arriving.{arrived}
 use Rattle.descriptor_manager.proofs.store.Store.free_each.Given.{Over}
 use Rattle.descriptor_manager.proofs.store.Store.free_each.Goals.{After-give, After-settle_held}
@@ -11,7 +11,7 @@ pub invariant_of-self : goal.invariant_of-self
 invariant_of-self g c =
     let s = c.args.self.now in
     let held = c.settle_held.ensures in
-    let same = settled_each (g.N.SetName.handles_of c.args.names.now) s.table.number (removed_of s.table) s.table.keep (slots_of s.table) (slots_of c.settle_held.new.self) c.settle_held.result held.back held.none in
+    let same = any_sets c.settle_held.result held.back held.none (search rules) in
     record { agree = search rules; exact = exact_as c.args.self.now same; accounted = accounted_as c.args.self.now same }
 
 back : (g : Over) (c : After-give g) → TurnEach (g.N.SetName.handles_of c.args.names.now) (IsBack vacated (removed_of c.args.self.now.table) c.args.self.now.table.keep) (slots_of c.args.self.now.table) (slots_of c.give.new.self.table)

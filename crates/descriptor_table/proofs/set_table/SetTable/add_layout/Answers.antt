@@ -7,8 +7,8 @@ use Rattle.descriptor_table.proofs.set_table.SetTable.add_layout.Goals as goal
 pub invariant_of-self-clause-sound : goal.invariant_of-self-clause-sound
 invariant_of-self-clause-sound g c =
     let s = c.args.self.now in
-    in_place (λ chains layouts. AreSound s.slots chains layouts s.waiting.items s.waiting.cap s.keep s.newest) _ _ _ _ c.add.ensures.chains c.add.ensures.layouts
-    (layout_sound s.slots s.slots (chains_in s.lists) (layouts_of s) s.waiting.items s.waiting.cap s.keep s.newest s.sound c.requires.room.few)
+    in_place (λ chains layouts. AreSound s.slots chains layouts s.waiting s.keep) _ _ _ _ c.add.ensures.chains c.add.ensures.layouts
+    (layout_sound s.slots s.slots (chains_in s.lists) (layouts_of s) s.waiting s.keep s.sound c.requires.room.few)
 
 pub invariant_of-self-clause-counted : goal.invariant_of-self-clause-counted
 invariant_of-self-clause-counted g c =

@@ -8,8 +8,7 @@ pub invariant_of-self-clause-sound : goal.invariant_of-self-clause-sound
 invariant_of-self-clause-sound g c =
     let s = c.args.self.now in
     let few = c.requires.room.few in
-    let room = c.requires.room.waiting in
-    push_sound s.slots c.push.new.self (chains_in s.lists) (layouts_of s) s.waiting.items s.waiting.cap s.keep s.newest s.sound no_slot refl c.push.ensures.slots c.push.ensures.nexts (record { there = c.requires.layouts; full = unheld Taken refl }) (omega arith) (omega arith)
+    push_sound s.slots c.push.new.self (chains_in s.lists) (layouts_of s) s.waiting s.keep s.sound no_slot refl c.push.ensures.slots c.push.ensures.nexts (record { there = c.requires.layouts; full = unheld Taken refl }) (omega arith)
 
 pub invariant_of-self-clause-counted : goal.invariant_of-self-clause-counted
 invariant_of-self-clause-counted g c = grown_counted c.args.self.now (slots_in c.push.new.self) c.push.ensures.slots

@@ -1,4 +1,4 @@
-use Rattle.descriptor_table.proofs.Common.{ap, is_some, refl, sym, subst, rules, ◌+◌, arith, set-set, deque_capacity, chains_in, AreCounted, AreSound, Slot, slot_at, slots_in, layouts_of, removed_of, slots_of, users_in}
+use Rattle.descriptor_table.proofs.Common.{◌∙◌, ap, get_or, waits, is_some, refl, sym, subst, rules, ◌+◌, arith, set-set, chains_in, AreCounted, AreSound, Slot, slot_at, slots_in, layouts_of, removed_of, slots_of, users_in}
 use Rattle.descriptor_table.proofs.Chains.{listed_out}
 use Rattle.descriptor_table.proofs.Heads.{first, left_sound, more, still}
 use Rattle.descriptor_table.proofs.Listed.{slot_set}
@@ -48,14 +48,15 @@ enqueue-requires-clause-came g c = let s = c.args.self.now in search (rules, fir
 pub invariant_of-self-clause-sound : goal.invariant_of-self-clause-sound
 invariant_of-self-clause-sound g c =
     let s = c.args.self.now in
-    subst (λ vacant. AreSound c.fill.new.self (chains_in (record s.lists { vacant = vacant })) (layouts_of s) c.enqueue.new.waiting.items (deque_capacity c.enqueue.new.waiting) s.keep c.enqueue.new.newest) (sym c.pop.ensures)
-    (left_sound s 0 c.requires.some s.lists.vacant refl c.fill.new.self _ c.fill.ensures.writes.slots c.at-slot.ensures.next c.fill.ensures.nexts c.requires.live c.requires.layout.within refl c.enqueue.ensures.capacity c.enqueue.ensures.queue)
+    subst (λ vacant. AreSound c.enqueue.new.slots (chains_in (record s.lists { vacant = vacant })) (layouts_of s) c.enqueue.new.queue s.keep) (sym c.pop.ensures)
+    (left_sound s 0 c.requires.some s.lists.vacant refl c.enqueue.new.slots _ (c.enqueue.ensures.slots ∙ c.fill.ensures.writes.slots) c.at-slot.ensures.next
+    (λ q out. c.enqueue.ensures.nexts q (ap (λ l. waits (slot_at l q)) c.fill.ensures.writes.slots ∙ out) ∙ ap (λ n. get_or n q 0) c.fill.ensures.nexts) c.requires.live c.requires.layout.within refl c.enqueue.ensures.queue)
 
 pub invariant_of-self-clause-counted : goal.invariant_of-self-clause-counted
 invariant_of-self-clause-counted g c =
     let s = c.args.self.now in
     let at = first s 0 c.requires.some s.lists.vacant refl in
-    subst (AreCounted (slots_in c.fill.new.self) (layouts_of s) (removed_of s)) (sym c.join.ensures) (joined_counted (slots_of s) (slots_in c.fill.new.self) (layouts_of s) (removed_of s) (users_in s.users) s.counted s.lists.vacant.first _ at.0 c.fill.ensures.writes.slots c.args.layout refl c.requires.layout.within (ap is_some (vacant_is (slot_at (slots_of s) s.lists.vacant.first) at.1).0) refl)
+    subst (λ l. AreCounted l (layouts_of s) (removed_of s) (users_in c.join.new.self)) (sym c.enqueue.ensures.slots) (subst (AreCounted (slots_in c.fill.new.self) (layouts_of s) (removed_of s)) (sym c.join.ensures) (joined_counted (slots_of s) (slots_in c.fill.new.self) (layouts_of s) (removed_of s) (users_in s.users) s.counted s.lists.vacant.first _ at.0 c.fill.ensures.writes.slots c.args.layout refl c.requires.layout.within (ap is_some (vacant_is (slot_at (slots_of s) s.lists.vacant.first) at.1).0) refl))
 
 pub returns-clause-usable : goal.returns-clause-usable
 returns-clause-usable g c = let s = c.args.self.now in search (rules, first s 0 c.requires.some s.lists.vacant refl)

@@ -1,4 +1,4 @@
-use Rattle.descriptor_table.proofs.Common.{◌≡◌, ◌+◌, ◌<◌, true, length, refl, sym, rules, arith, deque_capacity, AreSound, chain_at, is_kept_of, slot_at, slots_in, slots_of, chains_in, KeptOf, Chain}
+use Rattle.descriptor_table.proofs.Common.{ap, get_or, waits, ◌≡◌, ◌∙◌, ◌+◌, ◌<◌, true, length, refl, sym, rules, arith, AreSound, chain_at, is_kept_of, slot_at, slots_in, slots_of, chains_in, KeptOf, Chain}
 use Rattle.descriptor_table.proofs.Chains.{listed_out}
 use Rattle.descriptor_table.proofs.Counts.{chain_short, group_has}
 use Rattle.descriptor_table.proofs.Entries.{in_place}
@@ -61,11 +61,12 @@ invariant_of-self-clause-sound g c =
     let a = (goal.at.invariant_of-self-clause-sound g c).After-first-place in
     let p = at g a in
     let full = (kept_is k (slot_at (slots_of s) c.first-place.result) (omega arith) p.1).1 in
-    in_place (λ chains layouts. AreSound c.renew-generation.new.self chains layouts c.enqueue.new.waiting.items (deque_capacity c.enqueue.new.waiting) s.keep c.enqueue.new.newest) _ _ _ _ c.pop.ensures.chains c.pop.ensures.layouts
-    (left_sound s k c.requires.some (list g a) (was g a) c.renew-generation.new.self _ c.renew-generation.ensures.writes.slots c.at.ensures.next c.renew-generation.ensures.nexts c.requires.live (s.sound.known c.first-place.result p.0).there full c.enqueue.ensures.capacity c.enqueue.ensures.queue)
+    in_place (λ chains layouts. AreSound c.enqueue.new.slots chains layouts c.enqueue.new.queue s.keep) _ _ _ _ c.pop.ensures.chains c.pop.ensures.layouts
+    (left_sound s k c.requires.some (list g a) (was g a) c.enqueue.new.slots _ (c.enqueue.ensures.slots ∙ c.renew-generation.ensures.writes.slots) c.at.ensures.next
+    (λ q out. c.enqueue.ensures.nexts q (ap (λ l. waits (slot_at l q)) c.renew-generation.ensures.writes.slots ∙ out) ∙ ap (λ n. get_or n q 0) c.renew-generation.ensures.nexts) c.requires.live (s.sound.known c.first-place.result p.0).there full c.enqueue.ensures.queue)
 
 pub invariant_of-self-clause-counted : goal.invariant_of-self-clause-counted
-invariant_of-self-clause-counted g c = list_counted c.args.self.now (slots_in c.renew-generation.new.self) c.first-place.result _ c.renew-generation.ensures.writes.slots (at g (goal.at.invariant_of-self-clause-counted g c).After-first-place).0 refl refl (c.args.layout + 2) _ c.pop.new.self c.pop.ensures
+invariant_of-self-clause-counted g c = list_counted c.args.self.now (slots_in c.enqueue.new.slots) c.first-place.result _ (c.enqueue.ensures.slots ∙ c.renew-generation.ensures.writes.slots) (at g (goal.at.invariant_of-self-clause-counted g c).After-first-place).0 refl refl (c.args.layout + 2) _ c.pop.new.self c.pop.ensures
 
 pub returns-clause-kept : goal.returns-clause-kept
 returns-clause-kept g c = search (rules, at g (goal.at.returns-clause-kept g c).After-first-place)
@@ -74,4 +75,4 @@ pub returns-clause-fits : goal.returns-clause-fits
 returns-clause-fits g c = search (rules, slot_set, at g (goal.at.returns-clause-fits g c).After-first-place)
 
 pub returns-clause-stays : goal.returns-clause-stays
-returns-clause-stays g c = let s = c.args.self.now in record { settings = λ i. record { number = s.number; layouts = c.pop.ensures.layouts i; removed = c.pop.ensures.removed i; keep = s.keep }; space = c.renew-generation.ensures.writes.space; waiting = c.enqueue.ensures.capacity }
+returns-clause-stays g c = let s = c.args.self.now in record { settings = λ i. record { number = s.number; layouts = c.pop.ensures.layouts i; removed = c.pop.ensures.removed i; keep = s.keep }; space = c.enqueue.ensures.space ∙ c.renew-generation.ensures.writes.space }

@@ -13,7 +13,7 @@ pub invariant_of-self-clause-sound : goal.invariant_of-self-clause-sound
 invariant_of-self-clause-sound g c =
     let s = c.args.self.now in
     let k = list_of c.args.group in
-    in_place (λ chains layouts. AreSound c.link.new.self chains layouts s.waiting.items s.waiting.cap s.keep s.newest) _ _ _ _ c.push.ensures.chains c.push.ensures.layouts
+    in_place (λ chains layouts. AreSound c.link.new.self chains layouts s.waiting s.keep) _ _ _ _ c.push.ensures.chains c.push.ensures.layouts
     (front_sound s k c.args.place (used_for c.args.used (slot_at (slots_of s) c.args.place)) c.requires.within c.requires.idle c.requires.goes c.link.new.self c.link.ensures.writes.slots (group_within s.lists c.args.group c.requires.there) refl
     (λ two. (let few = c.requires.few two in omega (arith, chain_counts s k))) (c.link.ensures.nexts ∙ ap (set (nexts_in s.slots) c.args.place) c.first.ensures))
 
@@ -25,5 +25,5 @@ returns g c =
     let s = c.args.self.now in
     record {
       slots = c.link.ensures.writes.slots;
-      stays = record { settings = λ i. record { number = s.number; layouts = c.push.ensures.layouts i; removed = c.push.ensures.removed i; keep = s.keep }; space = c.link.ensures.writes.space; waiting = refl };
+      stays = record { settings = λ i. record { number = s.number; layouts = c.push.ensures.layouts i; removed = c.push.ensures.removed i; keep = s.keep }; space = c.link.ensures.writes.space };
     }

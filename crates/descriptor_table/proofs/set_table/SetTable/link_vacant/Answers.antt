@@ -20,7 +20,7 @@ pub invariant_of-self-clause-sound : goal.invariant_of-self-clause-sound
 invariant_of-self-clause-sound g c =
     let d = (goal.at.invariant_of-self-clause-sound g c).After-link in
     let s = c.args.self.now in
-    subst (λ vacant. AreSound c.link.new.self (chains_in (record s.lists { vacant = vacant })) (layouts_of s) s.waiting.items s.waiting.cap s.keep s.newest) (sym c.push.ensures)
+    subst (λ vacant. AreSound c.link.new.self (chains_in (record s.lists { vacant = vacant })) (layouts_of s) s.waiting s.keep) (sym c.push.ensures)
     (front_sound s 0 c.args.place (used_for Vacant (slot_at (slots_of s) c.args.place)) c.requires.taken.within (idle g d) (goes g d) c.link.new.self c.link.ensures.writes.slots (omega arith) refl (λ two. absurd (omega arith)) c.link.ensures.nexts)
 
 pub invariant_of-self-clause-counted : goal.invariant_of-self-clause-counted

@@ -30,8 +30,8 @@ pub invariant_of-self-clause-sound : goal.invariant_of-self-clause-sound
 invariant_of-self-clause-sound g c =
     let s = c.args.self.now in
     let k = list_of c.args.group in
-    in_place (λ chains layouts. AreSound c.set_use.new.self chains layouts s.waiting.items s.waiting.cap s.keep s.newest) _ _ _ _ c.pop.ensures.chains c.pop.ensures.layouts
-    (subst (λ (w : Chain). AreSound c.set_use.new.self (set (chains_in s.lists) k (record { first = c.at.result.now.next; count = w.count - 1 })) (layouts_of s) s.waiting.items s.waiting.cap s.keep s.newest) c.get-list.ensures
+    in_place (λ chains layouts. AreSound c.set_use.new.self chains layouts s.waiting s.keep) _ _ _ _ c.pop.ensures.chains c.pop.ensures.layouts
+    (subst (λ (w : Chain). AreSound c.set_use.new.self (set (chains_in s.lists) k (record { first = c.at.result.now.next; count = w.count - 1 })) (layouts_of s) s.waiting s.keep) c.get-list.ensures
     (taken_sound s k (some g (goal.at.invariant_of-self-clause-sound g c).After-at) c.get-list.result (sym c.get-list.ensures) c.set_use.new.self c.set_use.ensures.writes.slots c.at.ensures.next c.set_use.ensures.nexts))
 
 pub invariant_of-self-clause-counted : goal.invariant_of-self-clause-counted
@@ -42,5 +42,5 @@ returns g c =
     let s = c.args.self.now in
     record {
       slots = search (rules, at g (goal.at.returns g c).After-at);
-      stays = record { settings = λ i. record { number = s.number; layouts = c.pop.ensures.layouts i; removed = c.pop.ensures.removed i; keep = s.keep }; space = c.set_use.ensures.writes.space; waiting = refl };
+      stays = record { settings = λ i. record { number = s.number; layouts = c.pop.ensures.layouts i; removed = c.pop.ensures.removed i; keep = s.keep }; space = c.set_use.ensures.writes.space };
     }

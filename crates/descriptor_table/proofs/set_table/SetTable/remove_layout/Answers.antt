@@ -13,8 +13,8 @@ invariant_of-self-clause-sound g c =
     let s = c.args.self.now in
     let n = c.args.layout in
     let none = chain_counts s (n + 2) ∙ none_count (is_kept_of n) (slots_of s) c.requires.none_kept in
-    in_place (λ chains layouts. AreSound s.slots chains layouts s.waiting.items s.waiting.cap s.keep s.newest) _ _ _ _ c.remove.ensures.chains c.remove.ensures.layouts
-    (emptied_sound s.slots s.slots (chains_in s.lists) (layouts_of s) s.waiting.items s.waiting.cap s.keep s.newest s.sound (n + 2) _ none refl (omega (arith, length-map s.lists.kept.items shown, c.requires.layout.within)))
+    in_place (λ chains layouts. AreSound s.slots chains layouts s.waiting s.keep) _ _ _ _ c.remove.ensures.chains c.remove.ensures.layouts
+    (emptied_sound s.slots s.slots (chains_in s.lists) (layouts_of s) s.waiting s.keep s.sound (n + 2) _ none refl (omega (arith, length-map s.lists.kept.items shown, c.requires.layout.within)))
 
 pub invariant_of-self-clause-counted : goal.invariant_of-self-clause-counted
 invariant_of-self-clause-counted g c =

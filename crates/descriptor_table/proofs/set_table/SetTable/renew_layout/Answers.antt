@@ -7,7 +7,7 @@ use Rattle.descriptor_table.proofs.set_table.SetTable.renew_layout.Goals as goal
 pub invariant_of-self-2-clause-sound : goal.invariant_of-self-2-clause-sound
 invariant_of-self-2-clause-sound g c =
     let s = c.args.self.now in
-    in_place (λ chains layouts. AreSound s.slots chains layouts s.waiting.items s.waiting.cap s.keep s.newest) _ _ _ _ c.renew.ensures.chains c.renew.ensures.layouts s.sound
+    in_place (λ chains layouts. AreSound s.slots chains layouts s.waiting s.keep) _ _ _ _ c.renew.ensures.chains c.renew.ensures.layouts s.sound
 
 pub invariant_of-self-2-clause-counted : goal.invariant_of-self-2-clause-counted
 invariant_of-self-2-clause-counted g c =

@@ -10,7 +10,7 @@ leave-requires-clause-some g c = let s = c.args.self.now in grind (arith, common
 pub invariant_of-self-clause-sound : goal.invariant_of-self-clause-sound
 invariant_of-self-clause-sound g c =
     let s = c.args.self.now in
-    grind (arith, common_steps, out_sound s.slots c.vacate.new.self (chains_in s.lists) (layouts_of s) s.waiting.items s.waiting.cap s.keep s.newest s.sound c.args.place (vacated (slot_at (slots_in s.slots) c.args.place)), taken_no_list, taken_out)
+    grind (arith, common_steps, out_sound s.slots c.vacate.new.self (chains_in s.lists) (layouts_of s) s.waiting s.keep s.sound c.args.place (vacated (slot_at (slots_in s.slots) c.args.place)), taken_no_list, taken_out)
 
 pub invariant_of-self-clause-counted : goal.invariant_of-self-clause-counted
 invariant_of-self-clause-counted g c =

@@ -9,7 +9,6 @@ invariant_of-self-clause-sound g c =
     record {
       size = was.size;
       numbers = was.numbers;
-      fits = was.fits;
       linked = was.linked;
       queue = was.queue;
       known = was.known;

@@ -24,7 +24,7 @@ pub invariant_of-self-2-clause-sound : goal.invariant_of-self-2-clause-sound
 invariant_of-self-2-clause-sound g c =
     let d = (goal.at.invariant_of-self-2-clause-sound g c).After-leave in
     let s = c.args.self.now in
-    subst (λ vacant. AreSound c.vacate-set.new.self (chains_in (record s.lists { vacant = vacant })) (layouts_of s) s.waiting.items s.waiting.cap s.keep s.newest) (sym c.push.ensures)
+    subst (λ vacant. AreSound c.vacate-set.new.self (chains_in (record s.lists { vacant = vacant })) (layouts_of s) s.waiting s.keep) (sym c.push.ensures)
     (front_sound s 0 c.args.place (vacated (slot_at (slots_of s) c.args.place)) c.requires.taken.taken.within (idle g d) (goes g d) c.vacate-set.new.self c.vacate-set.ensures.writes.slots (omega arith) refl (λ two. absurd (omega arith)) c.vacate-set.ensures.nexts)
 
 pub invariant_of-self-2-clause-counted : goal.invariant_of-self-2-clause-counted

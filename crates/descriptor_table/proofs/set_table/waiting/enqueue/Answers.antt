@@ -1,9 +1,10 @@
-use Rattle.descriptor_table.proofs.Common.{common_steps, ◌≡◌, ◌<◌, ◌≤◌, ℕ, List, is_some, length, false, true, slice_set, sym, ap, subst, ◌∙◌, arith, length-set, IsNonDecreasingBy, IsPartitionPoint, IsQueue, Slot, frame_of, slot_at, slots_in, waits, waits_for, Use}
-use Rattle.std.proofs.lemmas.List.Edits.{insert_end}
-use Rattle.descriptor_table.proofs.Waiting.{few_wait, out_queue, put_queue, still_bound, still_rises}
+use Rattle.descriptor_table.proofs.Common.{common_steps, ◌≡◌, ◌<◌, ◌-◌, ◌∙◌, List, ℕ, [], ◌∷◌, ap, arith, get_or, ◌≤◌, is_some, length, slice_set, subst, sym, true, false, true≢false, length-set, IsBefore, IsPartitionPoint, IsQueue, Slot, frame_of, nexts_in, places_in, slot_at, slots_in, waits, waits_for, Use}
+use Rattle.descriptor_table.proofs.Counting.{walk_length}
+use Rattle.descriptor_table.proofs.Listed.{past_end}
+use Rattle.descriptor_table.proofs.Waiting.{Comes, before_few, comes_apart, comes_few, comes_out, comes_queue, comes_within, last_waits, out_queue, set_comes, still_rises}
 use Rattle.descriptor_table.proofs.set_table.waiting.enqueue.Given.{Over}
+use Rattle.descriptor_table.proofs.set_table.waiting.enqueue.Goals.{Else-not-waits}
 use Rattle.descriptor_table.proofs.set_table.waiting.enqueue.Goals as goal
-use Rattle.descriptor_table.proofs.set_table.waiting.enqueue.Goals.{After-frame-frame, Joined-newest-frame, then-newest-frame+else-newest-frame-2, else-newest-frame}
 
 -- whether a set in this use waits
 waits_in : {T : Type 0} (s : Slot T) (used : Use) (b : _) → s.used ≡ used → is_some s.set ≡ true → waits_for (λ f. true) used ≡ b → waits s ≡ b
@@ -13,72 +14,68 @@ waits_in s used b is full e = grind (arith, common_steps)
 inside : {T : Type 0} (slots old : List (Slot T)) (p : ℕ) (s : Slot T) → slots ≡ slice_set old p s → p < length slots → p < length old
 inside slots old p s made lt = (let long = ap length made ∙ length-set old p s in omega arith)
 
--- the frame of the set that waits
-frame_is : {T : Type 0} (s : Slot T) (used : Use) (f : ℕ) → s.used ≡ used → f ≡ frame_of used → frame_of s.used ≡ f
-frame_is s used f is e = ap frame_of is ∙ sym e
+abbrev places : (g : Over) → Else-not-waits g → List ℕ
+places g c = places_in (nexts_in c.args.slots.now) c.args.queue.now
 
-now_waits : (g : Over) (c : After-frame-frame g) → waits c.requires.came.1 ≡ true
-now_waits g c = waits_in c.requires.came.1 c.args.used true c.requires.came.3 c.requires.came.4 (sym c.waits.ensures ∙ c.if-not-waits.false)
+comes : (g : Over) (c : Else-not-waits g) → Comes c.requires.came.0 (slots_in c.args.slots.now) (c.args.place ∷ []) (frame_of c.args.used)
+comes g c =
+    let came = c.requires.came in
+    subst (λ l. Comes came.0 l (c.args.place ∷ []) (frame_of c.args.used)) (sym came.2)
+    (set_comes came.0 c.args.place came.1 (frame_of c.args.used) (inside (slots_in c.args.slots.now) came.0 c.args.place came.1 came.2 c.requires.within) came.5 (waits_in came.1 c.args.used true came.3 came.4 (sym c.waits.ensures ∙ c.if-not-waits.false)) (ap frame_of came.3))
 
-within : (g : Over) (c : After-frame-frame g) → c.args.place < length c.requires.came.0
-within g c = inside (slots_in c.args.slots.now) c.requires.came.0 c.args.place c.requires.came.1 c.requires.came.2 c.requires.within
-
--- there is memory for one more place
-room : (g : Over) (c : After-frame-frame g) → length c.args.waiting.now.items < c.args.waiting.now.cap
-room g c = grind (arith, common_steps, few_wait c.requires.came.0 c.args.waiting.now.items c.args.newest.now c.requires.came.6 c.args.place c.requires.came.1 (within g c) c.requires.came.5 (now_waits g c), length-set c.requires.came.0 c.args.place c.requires.came.1)
+long : (g : Over) (c : Else-not-waits g) → length (places g c) ≡ c.args.queue.now.list.count
+long g c = walk_length c.args.queue.now.list.count (nexts_in c.args.slots.now) c.args.queue.now.list.first
 
 pub returns-then-not-waits-clause-queue : goal.returns-then-not-waits-clause-queue
 returns-then-not-waits-clause-queue g c =
     let came = c.requires.came in
-    subst (λ l. IsQueue l c.args.waiting.now.items c.args.newest.now) (sym came.2)
-    (out_queue came.0 c.args.waiting.now.items c.args.newest.now came.6 c.args.place came.1 (inside (slots_in c.args.slots.now) came.0 c.args.place came.1 came.2 c.requires.within) came.5
+    subst (λ l. IsQueue l (places_in (nexts_in c.args.slots.now) c.args.queue.now) c.args.queue.now.last) (sym came.2)
+    (out_queue came.0 (places_in (nexts_in c.args.slots.now) c.args.queue.now) c.args.queue.now.last came.6 c.args.place came.1 (inside (slots_in c.args.slots.now) came.0 c.args.place came.1 came.2 c.requires.within) came.5
     (waits_in came.1 c.args.used false came.3 came.4 (sym c.waits.ensures ∙ c.if-not-waits.true)))
 
-pub enqueue_earlier-requires-clause-room : goal.enqueue_earlier-requires-clause-room
-enqueue_earlier-requires-clause-room g c = room g (goal.at.enqueue_earlier-requires-clause-room g c).After-frame-frame
-
-pub enqueue_earlier-requires-clause-rises : goal.enqueue_earlier-requires-clause-rises
-enqueue_earlier-requires-clause-rises g c =
-    let d = (goal.at.enqueue_earlier-requires-clause-rises g c).After-frame-frame in
+pub place_before-near-requires : goal.place_before-near-requires
+place_before-near-requires g c =
+    let e = (goal.at.place_before-near-requires g c).Else-not-waits in
     let came = c.requires.came in
-    subst (λ l. IsNonDecreasingBy (λ p. frame_of (slot_at l p).used) c.args.waiting.now.items) (sym came.2) (still_rises came.0 c.args.waiting.now.items c.args.newest.now came.6 c.args.place came.1 (within g d) came.5 (now_waits g d))
+    record {
+      hint = λ is. absurd (true≢false (sym is ∙ ap waits (past_end (slots_in c.args.slots.now) 4294967295 (let size = c.requires.size in omega arith))));
+      rises = still_rises came.0 (slots_in c.args.slots.now) (places g e) (c.args.place ∷ []) c.args.queue.now.last (frame_of c.args.used) came.6 (comes g e);
+      ends = λ i d is. came.6.ends i d (long g e ∙ is);
+      last = λ some. (let was = (last_waits came.0 (places g e) c.args.queue.now.last came.6 (c.args.queue.now.list.count - 1) (omega (arith, long g e))).0 in ap waits ((comes g e).same c.args.queue.now.last was) ∙ was);
+    }
 
-pub returns-then-newest-frame-2-clause-queue : goal.returns-then-newest-frame-2-clause-queue
-returns-then-newest-frame-2-clause-queue g c =
-    let d = (goal.at.returns-then-newest-frame-2-clause-queue g c).After-frame-frame in
+pub insert-requires : goal.insert-requires
+insert-requires g c =
+    let e = (goal.at.insert-requires g c).Else-not-waits in
     let came = c.requires.came in
-    let put = c.enqueue_earlier.ensures.items in
-    let above = c.if-newest-frame-2.true in
-    let f = c.frame-frame.result in
-    let point = subst (λ l. IsPartitionPoint (λ q. frame_of (slot_at l q).used ≤ f) (λ q. f < frame_of (slot_at l q).used) c.args.waiting.now.items put.0) came.2 put.2 in
-    subst (λ l. IsQueue l c.enqueue_earlier.new.waiting.items c.args.newest.now) (sym came.2)
-    (subst (λ l. IsQueue (slice_set came.0 c.args.place came.1) l c.args.newest.now) (sym put.3)
-    (put_queue came.0 c.args.waiting.now.items c.args.newest.now came.6 c.args.place came.1 (within g d) came.5 (now_waits g d)
-    f put.0 c.args.newest.now (frame_is came.1 c.args.used f came.3 c.frame-frame.ensures) put.1 point (omega arith) (omega arith)))
-
-pub push_back_reserved-requires : goal.push_back_reserved-requires
-push_back_reserved-requires g c = (let room = room g (goal.at.push_back_reserved-requires g c).After-frame-frame in let ok = c.args.waiting.now.ok in omega arith)
-
--- no set waits for a later frame than this one
-newest : (g : Over) (c : Joined-newest-frame g) → (c.args.newest.now ≤ c.frame-frame.result) × (c.if-newest-frame.newest ≡ c.frame-frame.result)
-newest g c = elim c.if-newest-frame.branch [
-  | then-newest-frame+else-newest-frame-2 w ↦ grind (arith, common_steps)
-  | else-newest-frame w ↦ grind (arith, common_steps)
-]
+    let l = places g e in
+    let q = c.args.queue.now in
+    let f = frame_of c.args.used in
+    record {
+      near = (c.place_before-near.ensures.0, c.place_before-near.ensures.1);
+      few = omega (arith, long g e, comes_few came.0 (slots_in c.args.slots.now) l (c.args.place ∷ []) q.last f came.6 (comes g e), c.requires.size);
+      some = λ none. omega (arith, none);
+      apart = comes_apart came.0 (slots_in c.args.slots.now) l (c.args.place ∷ []) q.last f came.6 (comes g e);
+      within = comes_within came.0 (slots_in c.args.slots.now) l (c.args.place ∷ []) q.last f came.6 (comes g e);
+      ends = λ i d is. came.6.ends i d (long g e ∙ is);
+      last = λ i d is. (let zero : i ≡ 0 = omega arith in ap (λ i. get_or (c.args.place ∷ []) i d) zero);
+    }
 
 pub returns-clause-queue : goal.returns-clause-queue
 returns-clause-queue g c =
-    let d = (goal.at.returns-clause-queue g c).After-frame-frame in
+    let e = (goal.at.returns-clause-queue g c).Else-not-waits in
     let came = c.requires.came in
-    let l = c.args.waiting.now.items in
-    let was = c.args.newest.now in
-    let f = c.frame-frame.result in
-    let is = newest g (goal.at.returns-clause-queue g c).Joined-newest-frame in
-    let not_above = is.0 in
-    subst (IsQueue (slots_in c.args.slots.now) c.push_back_reserved.new.self.items) (sym is.1)
-    (subst (λ l. IsQueue l c.push_back_reserved.new.self.items f) (sym came.2)
-    (subst (λ l. IsQueue (slice_set came.0 c.args.place came.1) l f) (insert_end l c.args.place ∙ sym c.push_back_reserved.ensures.items)
-    (put_queue came.0 l was came.6 c.args.place came.1 (within g d) came.5 (now_waits g d)
-    f (length l) f (frame_is came.1 c.args.used f came.3 c.frame-frame.ensures) (omega arith)
-    (λ k d' low lt. (let bound = still_bound came.0 l was came.6 c.args.place came.1 (within g d) came.5 (now_waits g d) k d' (omega arith) in omega arith), λ k d' past lt. absurd (omega arith))
-    (omega arith) (omega arith))))
+    let l = places g e in
+    let q = c.args.queue.now in
+    let f = frame_of c.args.used in
+    let k = c.place_before-near.ensures.0 in
+    let before = c.place_before-near.ensures.1 in
+    let count = long g e in
+    subst (λ s. IsQueue s (places_in (nexts_in c.insert.new.slots) c.insert.new.queue) c.insert.new.queue.last) (sym c.insert.ensures.slots)
+    (subst (λ l. IsQueue (slots_in c.args.slots.now) l c.insert.new.queue.last) (sym (c.insert.ensures.places k before))
+    (comes_queue came.0 (slots_in c.args.slots.now) l (c.args.place ∷ []) q.last f came.6 (comes g e) k c.args.place c.insert.new.queue.last (before_few l k c.place_before-near.result before)
+    (subst (λ f. IsPartitionPoint (λ p. frame_of (slot_at (slots_in c.args.slots.now) p).used ≤ f) (λ p. f < frame_of (slot_at (slots_in c.args.slots.now) p).used) l k) c.frame.ensures c.place_before-near.ensures.2) (λ none. omega (arith, none)) (λ i d is. (let zero : i ≡ 0 = omega arith in ap (λ i. get_or (c.args.place ∷ []) i d) zero))
+    (λ is. c.insert.ensures.end (subst (λ k. IsBefore l k c.place_before-near.result) (is ∙ count) before)) (λ less. c.insert.ensures.stays k (omega arith) before)))
+
+pub returns-clause-nexts : goal.returns-clause-nexts
+returns-clause-nexts g c = λ p out. c.insert.ensures.nexts p (let e = (goal.at.returns-clause-nexts g c).Else-not-waits in comes_out c.requires.came.0 (slots_in c.args.slots.now) (places g e) (c.args.place ∷ []) c.args.queue.now.last (frame_of c.args.used) c.requires.came.6 (comes g e) p out)
