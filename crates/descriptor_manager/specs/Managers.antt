@@ -9,6 +9,7 @@ use Rattle.gpu_descriptor.specs.Caller.Values.{Allocations}
 use Rattle.gpu_descriptor.specs.Model.Books.{BucketOf, books_of}
 use Rattle.gpu_descriptor.specs.declared.layout.SetLayout.{SetLayout}
 use Rattle.gpu_descriptor.specs.declared.set.DescriptorSet.{DescriptorSet}
+use Rattle.descriptor_table.specs.Handles.{HasPlace}
 use Rattle.descriptor_table.specs.Sets.{NameEach, Sets, sets_of}
 use Rattle.descriptor_table.specs.declared.handle.SetHandle.{SetHandle}
 use Rattle.descriptor_table.specs.Slots.{Slot, count, is_set_of, slot_at}
@@ -16,7 +17,7 @@ use Rattle.descriptor_manager.specs.LayoutRegistries.{layout_at, layout_slots, l
 use Rattle.descriptor_manager.specs.Stores as stores
 use Rattle.descriptor_manager.specs.declared.layout_registry.LayoutHandle.{LayoutHandle}
 use Rattle.descriptor_manager.specs.declared.manager.SetManager.{SetManager}
-use Rattle.descriptor_table.specs.Tables.{Grows, is_usable}
+use Rattle.descriptor_table.specs.Tables.{Grows, HasListRoom, is_usable}
 use Rattle.descriptor_manager.specs.declared.errors.RequestError.{RequestError}
 use Rattle.descriptor_manager.specs.declared.errors.RequestError.TheVariants.{NoFrame, NoLayout}
 
@@ -131,6 +132,11 @@ module _ {L P S D : Type 0} {d : Ghosts D L P S} where
     pub no_frame : ¬ (IsErrOf result NoFrame)
     pub no_layout : (IsErrOf result NoLayout) ↔ (layout_of old layout ≡ None)
     pub early : IsErrOf result NoLayout → seen new ≡ seen old
+
+  -- there is memory for one more layout, of its sets and of itself
+  pub record HasLayoutRoom (r : ManagerOver d) : Type 0 where
+    pub sets : HasListRoom r.store.table
+    pub layouts : HasPlace r.layouts.table
 
   -- the pools for sets of layouts with this one's key
   abbrev pub pools_for : L → ManagerOver d → BucketOf P

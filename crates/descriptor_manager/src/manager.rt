@@ -4,9 +4,8 @@ ghost use Rattle.std.specs.Prelude.{IfErr, IfOk, IsErrOf, IsOk, IsSome, None, On
 ghost use Rattle.std.specs.Option.{option_copied};
 ghost use Rattle.gpu_descriptor.specs.Caller.CleansUp.{Sweeps};
 ghost use Rattle.gpu_descriptor.specs.Caller.SetLayouts.{IsMeant};
-ghost use Rattle.descriptor_table.specs.Handles.{HasPlace};
 ghost use Rattle.descriptor_table.specs.Slots.{count, is_kept_of, is_set_of, slot_at, waits};
-ghost use Rattle.descriptor_table.specs.Tables.{HasListRoom, MayBecome, Turns, holds, is_kept};
+ghost use Rattle.descriptor_table.specs.Tables.{MayBecome, Turns, holds, is_kept};
 ghost use Rattle.descriptor_table.specs.Tables.{vacated};
 ghost use Rattle.descriptor_manager.specs.LayoutRegistries.{layout_slots, registry_of};
 ghost use Rattle.descriptor_manager.specs.Own.{HasSetsOf};
@@ -70,8 +69,8 @@ pub struct SetManager<L, P, S, D: DescriptorDevice<L, P, S>> {
 impl<L: Drop, P: Drop, S: Drop, D: DescriptorDevice<L, P, S>> SetManager<L, P, S, D> {
     ghost use Rattle.gpu_descriptor.specs.declared.layout.SetLayout.{SetLayout};
     ghost use Rattle.descriptor_manager.specs.declared.layout_registry.LayoutHandle.{LayoutHandle};
-    ghost use Rattle.descriptor_manager.specs.Managers.{NoneFree, OnlySetsChange, frame_of, is_open};
-    ghost use Rattle.descriptor_manager.specs.Managers.{kept_of, layout_of};
+    ghost use Rattle.descriptor_manager.specs.Managers.{HasLayoutRoom, NoneFree, OnlySetsChange};
+    ghost use Rattle.descriptor_manager.specs.Managers.{frame_of, is_open, kept_of, layout_of};
     ghost use Rattle.descriptor_manager.specs.Managers.{layouts_in};
     ghost use Rattle.descriptor_manager.specs.Managers.{pools_besides, seen};
     ghost use Rattle.descriptor_manager.specs.Managers.{sets_by, side_of, slots_of, store_of};
@@ -104,9 +103,9 @@ impl<L: Drop, P: Drop, S: Drop, D: DescriptorDevice<L, P, S>> SetManager<L, P, S
     }
 
     /// Adds a layout and returns its handle, which is never given again. A removed layout's memory is used
-    /// again once all its sets are back in their pools, and that can't fail. If memory runs out, or if there are
-    /// 2^31 layouts with the removed ones of which sets are left, it returns the layout in the error, and nothing
-    /// changes.
+    /// again once all its sets are back in their pools, and that can't fail; but a number that gave its last
+    /// handle isn't used again. If memory runs out, or if there are 2^31 layouts with the removed ones of which
+    /// sets are left, it returns the layout in the error, and nothing changes.
     pub fn add_layout(
         &mut self,
         layout: SetLayout<L>,
@@ -123,6 +122,7 @@ impl<L: Drop, P: Drop, S: Drop, D: DescriptorDevice<L, P, S>> SetManager<L, P, S
             × ((seen self.new).given other ≡ (seen self.old).given other)) }
         ensures grows { (length (layouts_in self.new) ≡ length (layouts_in self.old))
             ⊎ NoneFree (layouts_in self.old) (slots_of self.old) }
+        ensures fits { HasLayoutRoom self.old → IsOk result }
         ensures full { OnErr result (NoneFree (layouts_in self.old) (slots_of self.old)) }
         ensures stay { OnErr result (seen self.new ≡ seen self.old) }
         ensures back { IfErr result (λ failed. failed.value ≡ layout) }
@@ -158,7 +158,7 @@ impl<L: Drop, P: Drop, S: Drop, D: DescriptorDevice<L, P, S>> SetManager<L, P, S
         ensures others { IfOk result (λ handle. (other : LayoutHandle) → other ≢ handle
             → (layout_of self.new other ≡ layout_of self.old other)
             × ((seen self.new).given other ≡ (seen self.old).given other)) }
-        ensures fits { HasListRoom self.old.store.table → HasPlace self.old.layouts.table → IsOk result }
+        ensures fits { HasLayoutRoom self.old → IsOk result }
         ensures stay { OnErr result (seen self.new ≡ seen self.old) }
         ensures back { IfErr result (λ failed. failed.value ≡ layout) }
         ensures rest { seen self.new ≡ record (seen self.old) {

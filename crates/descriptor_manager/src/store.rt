@@ -109,6 +109,7 @@ impl<L: Drop, P: Drop, S: Drop, D: DescriptorDevice<L, P, S>> Store<L, P, S, D> 
         ensures renews { IfSome result (λ layout. Renewed layout self.old.table self.new.table) }
         ensures none { result ≡ None → AreNoneFree self.old.table × OnlySettings (settings_of
             self.old.table) self.old.table self.new.table }
+        ensures room { HasListRoom self.old.table → HasListRoom self.new.table }
         ensures contents { KeepsContents self.old self.new }
     {
         self.table.renew_layout()

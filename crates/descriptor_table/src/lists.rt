@@ -114,6 +114,7 @@ impl Lists {
         ensures chains { chains_in self.new ≡ chains_in self.old }
         ensures layouts { layouts_in self.new ≡ layouts_in self.old }
         ensures removed { removed_in self.new ≡ removed_as false layout (removed_in self.old) }
+        ensures space { vec_capacity self.new.kept ≡ vec_capacity self.old.kept }
     {
         self.kept[layout as usize] = Chain::EMPTY;
     }

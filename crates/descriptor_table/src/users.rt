@@ -85,6 +85,7 @@ impl LayoutUsers {
             ≡ slice_set (users_in self.old) layout 1) }
         ensures none { result ≡ None → ((layout : ℕ) → users_at (users_in self.old) layout ≢ 0)
             × (users_in self.new ≡ users_in self.old) }
+        ensures room { HasNumberRoom self.old → HasNumberRoom self.new }
     {
         let layout = self.free.pop()?;
         self.counts[layout as usize] = 1;

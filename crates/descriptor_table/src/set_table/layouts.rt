@@ -41,6 +41,7 @@ impl<T> SetTable<T> {
         ensures renews { IfSome result (λ layout. Renewed layout self.old self.new) }
         ensures none { result ≡ None → AreNoneFree self.old × OnlySettings (settings_of self.old)
             self.old self.new }
+        ensures room { HasListRoom self.old → HasListRoom self.new }
     {
         let layout = self.users.take()?;
         self.lists.renew(layout);

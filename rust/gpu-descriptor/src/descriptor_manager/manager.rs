@@ -72,9 +72,9 @@ impl<L, P, S, D: DescriptorDevice<L, P, S>> SetManager<L, P, S, D> {
     }
 
     /// Adds a layout and returns its handle, which is never given again. A removed layout's memory is used
-    /// again once all its sets are back in their pools, and that can't fail. If memory runs out, or if there are
-    /// 2^31 layouts with the removed ones of which sets are left, it returns the layout in the error, and nothing
-    /// changes.
+    /// again once all its sets are back in their pools, and that can't fail; but a number that gave its last
+    /// handle isn't used again. If memory runs out, or if there are 2^31 layouts with the removed ones of which
+    /// sets are left, it returns the layout in the error, and nothing changes.
     pub fn add_layout(
         &mut self,
         layout: SetLayout<L>,
