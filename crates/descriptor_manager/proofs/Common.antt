@@ -16,14 +16,14 @@ pub use Rattle.descriptor_manager.specs.declared.layout_registry.LayoutRegistry.
 pub use Rattle.descriptor_manager.specs.declared.manager.SetManager.{SetManager}
 pub use Rattle.descriptor_manager.specs.declared.store.Store.{Store}
 pub use Rattle.descriptor_table.proofs.Chains.{lists_apart, live_no_list}
-pub use Rattle.descriptor_table.proofs.Counts.{count_few, count_none, count_set, none_count, same_count}
+pub use Rattle.descriptor_table.proofs.Counts.{count_few, count_none, count_same, count_set, none_count, same_count}
 pub use Rattle.descriptor_table.proofs.Holding.{held_is, named_or}
 pub use Rattle.descriptor_table.proofs.Leaving.{given_all, given_weigh, group_out, same_sets, tally, tally_length}
 pub use Rattle.descriptor_table.proofs.Listed.{bit, other_slots, past_end, slot_set, test_within}
 pub use Rattle.descriptor_table.proofs.Names.{handles_both, handles_long, handles_written, place_read}
 pub use Rattle.descriptor_table.proofs.Naming.{ShowsSame, names_kept, names_lost, shown}
 pub use Rattle.descriptor_table.proofs.Renewing.{kept_full, kept_is, room_stays, vacant_is}
-pub use Rattle.descriptor_table.proofs.Turning.{count_same, due_full, going_out}
+pub use Rattle.descriptor_table.proofs.Turning.{due_full, going_out}
 pub use Rattle.descriptor_table.specs.Giving.{GivesNext, is_of}
 pub use Rattle.descriptor_table.specs.Sets.{AllFit, AreHeldOnce, LoseNames, NameEach, Sets, find, is_given, is_held, joined, sets_in, sets_of}
 pub use Rattle.descriptor_table.specs.Slots.{Slot, count, frame_of, goes, in_list, is_due, is_in, is_kept_of, is_live, is_removed, is_set_of, slot_at, waits, waits_for}

@@ -83,7 +83,7 @@ module _ {T : Type 0} (slots : List (Slot T)) (next : List ℕ) (chains : List C
     other_places k x = search (rules, walk_other, not_listed, nowhere_out)
 
   -- one list changed
-  chain_changed : (slots' : List (Slot T)) (next' : List ℕ) (k : ℕ) (d : Chain) → k < length chains → Lists (is_in k) slots' (walk d.count next' d.first) → ((j : ℕ) → j ≢ k → Lists (is_in j) slots' (walk (chain_at chains j).count next' (chain_at chains j).first)) → AreLinked slots' next' (set chains k d)
+  pub chain_changed : (slots' : List (Slot T)) (next' : List ℕ) (k : ℕ) (d : Chain) → k < length chains → Lists (is_in k) slots' (walk d.count next' d.first) → ((j : ℕ) → j ≢ k → Lists (is_in j) slots' (walk (chain_at chains j).count next' (chain_at chains j).first)) → AreLinked slots' next' (set chains k d)
   chain_changed slots' next' k d within here others j = grind (arith, common_steps)
 
   -- a list without slots became another one

@@ -1,5 +1,8 @@
--- Lists of places, and how often each place is in them: for the lists of slots, as they are in `Listed` and `Counts`.
-use Rattle.descriptor_table.proofs.Common.{◌≡◌, ◌≢◌, ℕ, zero, suc, ◌+◌, ◌<◌, ◌≤◌, List, [], ◌∷◌, ◌++◌, inl, inr, drop, take, length, get_or, set, refl, sym, ap, subst, ◌∙◌, arith, eq-eqb, ne_eqb, rules, get_or-set_other, get_or-set_same, length-set, cases_eq, times, walk}
+-- Lists of places: how often each place is in them, what comes last, where they lead, and along which a number rises. For the lists
+-- of slots, as they are in `Listed` and `Counts`, and for the queue.
+use Rattle.std.specs.Prelude.{⊤}
+use Rattle.std.proofs.lemmas.List.{append-nil, append_assoc}
+use Rattle.descriptor_table.proofs.Common.{◌≡◌, ◌≢◌, ℕ, zero, suc, ◌+◌, ◌<◌, ◌≤◌, List, [], ◌∷◌, ◌++◌, Option, None, Some, inl, inr, length, get_or, set, refl, sym, ap, subst, ◌∙◌, arith, eq-eqb, ne_eqb, rules, get_or-set_other, get_or-set_same, length-set, cases_eq, last_or, times, walk, Rises}
 
 pub times_here : (p : ℕ) (l : List ℕ) → times p (p ∷ l) ≡ times p l + 1
 times_here p l = rw (eq-eqb p p refl) (omega arith)
@@ -19,106 +22,149 @@ walk_other (suc n) next first p x none = search (rules, cases_eq, times_here, ti
 -- a list stays if the nexts of its places do
 pub walk_agree : (n : ℕ) (next next' : List ℕ) (first : ℕ) → ((q : ℕ) → times q (walk n next first) ≢ 0 → get_or next' q 0 ≡ get_or next q 0) → walk n next' first ≡ walk n next first
 walk_agree zero next next' first same = refl
-walk_agree (suc n) next next' first same =
-    let here = same first (λ none. let h = times_here first (walk n next (get_or next first 0)) in omega arith) in
-    ap (λ y. first ∷ walk n next' y) here ∙ ap (λ l. first ∷ l) (walk_agree n next next' (get_or next first 0) (λ q some. same q (λ none. some (let a = none in omega arith))))
+walk_agree (suc n) next next' first same = search (rules, same first, times_here first (walk n next (get_or next first 0)), walk_agree n next next' (get_or next first 0))
 
 -- a place that comes after one of a list is in the list once more, and each other place as often as before
 pub walk_after : (n : ℕ) (next : List ℕ) (first near p q : ℕ) → times near (walk n next first) ≡ 1 → times p (walk n next first) ≡ 0 → near < length next → p < length next → times q (walk (suc n) (set (set next p (get_or next near 0)) near p) first) ≡ times q (p ∷ walk n next first)
 walk_after zero next first near p q once none there within = absurd (omega arith)
 walk_after (suc n) next first near p q once none there within = grind (arith, cases_eq first near, cases_eq first p, times_here, times_there, get_or-set_other, get_or-set_same, length-set, walk_other n next (get_or next first 0), walk_other n (set next p (get_or next near 0)) (get_or next first 0) near p, walk_after n next (get_or next first 0) near p q)
 
--- a place that isn't in a list is nowhere in it
-pub apart_at : (p : ℕ) (l : List ℕ) (i d : ℕ) → times p l ≡ 0 → i < length l → get_or l i d ≢ p
-apart_at p [] i d none lt = absurd (omega arith)
-apart_at p (q ∷ l) zero d none lt = search (rules, times_here)
-apart_at p (q ∷ l) (suc i) d none lt = apart_at p l i d (omega arith) (omega arith)
-
 pub walk_length : (n : ℕ) (next : List ℕ) (first : ℕ) → length (walk n next first) ≡ n
 walk_length zero next first = refl
 walk_length (suc n) next first = let h = walk_length n next (get_or next first 0) in omega arith
 
--- a place of a list that has none twice is in it once
-pub once_at : (p : ℕ) (l : List ℕ) (i : ℕ) → times p l ≤ 1 → i < length l → ((d : ℕ) → get_or l i d ≡ p) → times p l ≡ 1
-once_at p l i few lt is = let some : times p l ≢ 0 = λ none. apart_at p l i 0 none lt (is 0) in omega arith
-
--- another list comes at the end of one, whose last place is in it once
-pub walk_join : (n m t : ℕ) (next : List ℕ) (first last head : ℕ) → t ≡ n + m → ((d : ℕ) → get_or (walk (suc n) next first) n d ≡ last) → times last (walk (suc n) next first) ≡ 1 → last < length next → walk (suc t) (set next last head) first ≡ walk (suc n) next first ++ walk m (set next last head) head
-walk_join zero m t next first last head all ends once within =
-    let same : t ≡ m = omega arith in
-    let is = ap (λ x. get_or (set next last head) x 0) (ends 0) ∙ get_or-set_same next last head 0 within in
-    (λ i. first ∷ walk (same i) (set next last head) (is i))
-walk_join (suc n) m zero next first last head all ends once within = absurd (omega arith)
-walk_join (suc n) m (suc t) next first last head all ends once within =
-    let rest = walk (suc n) next (get_or next first 0) in
-    elim (cases_eq last first) [
-      | inl e ↦ absurd (apart_at last rest n 0 (let once = once in omega (arith, times_here last rest, ap (λ x. times last (x ∷ rest)) e)) (omega (arith, walk_length (suc n) next (get_or next first 0))) (ends 0))
-      | inr ne ↦ (
-          let there = get_or-set_other next last first head 0 (λ e. ne (sym e)) in
-          ap (λ y. first ∷ walk (suc t) (set next last head) y) there ∙ ap (λ l. first ∷ l) (walk_join n m t next (get_or next first 0) last head (omega arith) ends (sym (times_there last first rest ne) ∙ once) within)
-          )
-    ]
-
--- no place is in two lists, or in one twice
-abbrev pub AreApart : List ℕ → List ℕ → Type 0
-AreApart l m = (p : ℕ) → times p l + times p m ≤ 1
-
-module _ (m : ℕ) (next : List ℕ) (head end : ℕ) (ends : (d : ℕ) → get_or (walk (suc m) next head) m d ≡ end) (there : end < length next) where
-  -- the last place of one of them
-  end_once : (l : List ℕ) → AreApart l (walk (suc m) next head) → (times end (walk (suc m) next head) ≡ 1) × (times end l ≡ 0)
-  end_once l apart =
-      let few = apart end in
-      let once = once_at end (walk (suc m) next head) m (omega arith) (omega (arith, walk_length (suc m) next head)) ends in
-      (once, omega arith)
-
-  -- a list comes first
-  pub walk_front : (n t first : ℕ) → t ≡ m + n → AreApart (walk n next first) (walk (suc m) next head) → walk (suc t) (set next end first) head ≡ walk (suc m) next head ++ walk n next first
-  walk_front n t first all apart = (let once = end_once (walk n next first) apart in walk_join m n t next head end first all ends once.0 there ∙ ap (λ l. walk (suc m) next head ++ l) (walk_other n next first end first once.1))
-
-  -- or after a place of the other one
-  pub walk_splice : (n i t first near : ℕ) → t ≡ m + n → i < n → ((d : ℕ) → get_or (walk n next first) i d ≡ near) → AreApart (walk n next first) (walk (suc m) next head) → near < length next → walk (suc t) (set (set next end (get_or next near 0)) near head) first ≡ take (suc i) (walk n next first) ++ (walk (suc m) next head ++ drop (suc i) (walk n next first))
-  walk_splice zero i t first near all lt at apart within = absurd (omega arith)
-  walk_splice (suc n) i zero first near all lt at apart within = absurd (omega arith)
-  walk_splice (suc n) zero (suc t) first near all lt at apart within =
-      let rest = walk n next (get_or next first 0) in
-      let is : first ≡ near = at 0 in
-      let few = apart first in
-      let one = times_here first rest in
-      let front = walk_front n t (get_or next first 0) (omega arith) (λ p. let few = apart p in omega arith) in
-      let none : times first (walk (suc t) (set next end (get_or next first 0)) head) ≡ 0 = ap (times first) front ∙ times_append first (walk (suc m) next head) rest ∙ omega arith in
-      let long = length-set next end (get_or next first 0) in
-      subst (λ near. walk (suc (suc t)) (set (set next end (get_or next near 0)) near head) first ≡ first ∷ (walk (suc m) next head ++ rest)) is
-      (ap (λ y. first ∷ walk (suc t) (set (set next end (get_or next first 0)) first head) y) (get_or-set_same (set next end (get_or next first 0)) first head 0 (omega arith)) ∙ ap (λ l. first ∷ l) (walk_other (suc t) (set next end (get_or next first 0)) head first head none ∙ front))
-  walk_splice (suc n) (suc i) (suc t) first near all lt at apart within =
-      let rest = walk n next (get_or next first 0) in
-      let one = times_here first rest in
-      let few = apart first in
-      let far : first ≢ near = λ e. apart_at first rest i 0 (omega arith) (omega (arith, walk_length n next (get_or next first 0))) (at 0 ∙ sym e) in
-      let other : first ≢ end = λ e. let once = end_once (first ∷ rest) apart in let none = ap (λ p. times p (first ∷ rest)) e in omega arith in
-      ap (λ y. first ∷ walk (suc t) (set (set next end (get_or next near 0)) near head) y) (get_or-set_other (set next end (get_or next near 0)) near first head 0 far ∙ get_or-set_other next end first (get_or next near 0) 0 other)
-      ∙ ap (λ l. first ∷ l) (walk_splice n i t (get_or next first 0) near (omega arith) (omega arith) at (λ p. let few = apart p in omega arith) within)
-
--- the places along a list
-pub walk_first : (n : ℕ) (next : List ℕ) (first d : ℕ) → n ≢ 0 → get_or (walk n next first) 0 d ≡ first
-walk_first zero next first d some = absurd (some refl)
-walk_first (suc n) next first d some = refl
-
-pub walk_next : (n i : ℕ) (next : List ℕ) (first d : ℕ) → suc i < n → get_or (walk n next first) (suc i) d ≡ get_or next (get_or (walk n next first) i d) 0
-walk_next zero i next first d lt = absurd (omega arith)
-walk_next (suc n) zero next first d lt = walk_first n next (get_or next first 0) d (λ none. omega (arith, none))
-walk_next (suc n) (suc i) next first d lt = walk_next n i next (get_or next first 0) d (omega arith)
-
--- where a place is in a list
-pub position : (p : ℕ) (l : List ℕ) → times p l ≢ 0 → (i : ℕ) × (i < length l) × ((d : ℕ) → get_or l i d ≡ p)
-position p [] some = absurd (some refl)
-position p (q ∷ l) some = elim (cases_eq p q) [
-  | inl e ↦ (0, omega arith, λ d. sym e)
-  | inr ne ↦ (let at = position p l (λ none. some (times_there p q l ne ∙ none)) in (suc at.0, omega (arith, at.1), at.2))
+-- a list is cut at each of its places
+pub cut_at : (p : ℕ) (l : List ℕ) → times p l ≢ 0 → (before after : List ℕ) × (l ≡ before ++ p ∷ after)
+cut_at p [] some = absurd (some refl)
+cut_at p (q ∷ l) some = elim (cases_eq p q) [
+  | inl e ↦ ([], l, ap (λ q. q ∷ l) (sym e))
+  | inr ne ↦ (let cut = cut_at p l (λ none. some (times_there p q l ne ∙ none)) in (q ∷ cut.0, cut.1, ap (λ l. q ∷ l) cut.2))
 ]
 
--- a place at two ends of a list is in it twice
-pub twice : (p : ℕ) (l : List ℕ) (i j : ℕ) → i < j → j < length l → ((d : ℕ) → get_or l i d ≡ p) → ((d : ℕ) → get_or l j d ≡ p) → 2 ≤ times p l
-twice p [] i j less lt at after = absurd (omega arith)
-twice p (q ∷ l) i zero less lt at after = absurd (omega arith)
-twice p (q ∷ l) zero (suc j) less lt at after = (let some : times p l ≢ 0 = λ none. apart_at p l j 0 none (omega arith) (after 0) in omega (arith, times_here p l, ap (λ q. times p (q ∷ l)) (at 0)))
-twice p (q ∷ l) (suc i) (suc j) less lt at after = (let h = twice p l i j (omega arith) (omega arith) at after in omega arith)
+-- the last place of two lists is that of the second one, if this has a place
+pub last_append : (o : Option ℕ) (l m : List ℕ) → last_or o (l ++ m) ≡ last_or (last_or o l) m
+last_append o [] m = refl
+last_append o (p ∷ l) m = last_append (Some p) l m
+
+pub last_any : (o : Option ℕ) (l : List ℕ) (p : ℕ) → last_or None l ≡ Some p → last_or o l ≡ Some p
+last_any o [] p is = absurd (cc is)
+last_any o (q ∷ l) p is = is
+
+pub last_some : (l : List ℕ) (last : ℕ) → length l ≢ 0 → last_or (Some last) l ≡ Some last → last_or None l ≡ Some last
+last_some [] last some is = absurd (some refl)
+last_some (q ∷ l) last some is = is
+
+-- the last one stays when the first of more leaves a list
+pub last_rest : (p last : ℕ) (l : List ℕ) → last_or (Some p) l ≡ Some last → last_or (Some last) l ≡ Some last
+last_rest p last [] is = refl
+last_rest p last (q ∷ l) is = is
+
+-- nothing comes before the first place
+pub none_before : (l : List ℕ) → last_or None l ≡ None → l ≡ []
+none_before [] is = refl
+none_before (q ∷ []) is = absurd (cc is)
+none_before (q ∷ r ∷ l) is = absurd (cc (none_before (r ∷ l) is))
+
+-- the last place of a list is in it
+pub last_in : (p : ℕ) (l : List ℕ) → last_or None l ≡ Some p → times p l ≢ 0
+last_in p [] is = absurd (cc is)
+last_in p (q ∷ []) is = λ none. (let e : q ≡ p = cc is in omega (arith, none, times_here p [], ap (λ q. times p (q ∷ [])) e))
+last_in p (q ∷ r ∷ l) is = λ none. last_in p (r ∷ l) is (omega (arith, none))
+
+-- nothing comes after the last place, and something after any other
+pub after_last : (before after : List ℕ) (last : ℕ) → last_or None before ≡ Some last → last_or (Some last) (before ++ after) ≡ Some last → times last (before ++ after) ≤ 1 → after ≡ []
+after_last before [] last at ends few = refl
+after_last before (q ∷ after) last at ends few = absurd (last_in last before at (omega (arith, few, times_append last before (q ∷ after), last_in last (q ∷ after) (sym (last_append (Some last) before (q ∷ after)) ∙ ends))))
+
+pub after_other : (before after : List ℕ) (near last : ℕ) → last_or None before ≡ Some near → last_or (Some last) (before ++ after) ≡ Some last → near ≢ last → (q : ℕ) × (rest : List ℕ) × (after ≡ q ∷ rest)
+after_other before [] near last at ends ne = absurd (ne (cc (last_any (Some last) before near at, last_append (Some last) before [], ends)))
+after_other before (q ∷ after) near last at ends ne = (q, after, refl)
+
+-- the last place of a list into which another one is put
+pub last_between : (before b after : List ℕ) (last end new : ℕ) → last_or (Some last) (before ++ after) ≡ Some last → last_or None b ≡ Some end → (length after ≡ 0 → new ≡ end) → (length after ≢ 0 → new ≡ last) → last_or (Some new) (before ++ (b ++ after)) ≡ Some new
+last_between before b [] last end new ends is none some = last_append (Some new) before (b ++ []) ∙ last_append (last_or (Some new) before) b [] ∙ last_any (last_or (Some new) before) b end is ∙ ap Some (sym (none refl))
+last_between before b (q ∷ after) last end new ends is none some = last_append (Some new) before (b ++ q ∷ after) ∙ last_append (last_or (Some new) before) b (q ∷ after) ∙ sym (last_append (Some last) before (q ∷ after)) ∙ ends ∙ ap Some (sym (some (λ e. absurd (omega (arith, e)))))
+
+-- the list goes along the nexts, from this place on
+abbrev pub Leads : List ℕ → ℕ → List ℕ → Type 0
+Leads next first [] = ⊤
+Leads next first (p ∷ l) = (p ≡ first) × Leads next (get_or next p 0) l
+
+pub walk_leads : (n : ℕ) (next : List ℕ) (first : ℕ) → Leads next first (walk n next first)
+walk_leads zero next first = tt
+walk_leads (suc n) next first = (refl, walk_leads n next (get_or next first 0))
+
+pub leads_walk : (l : List ℕ) (next : List ℕ) (first : ℕ) → Leads next first l → walk (length l) next first ≡ l
+leads_walk [] next first leads = refl
+leads_walk (p ∷ l) next first leads = subst (λ first. walk (length (p ∷ l)) next first ≡ p ∷ l) leads.0 (ap (λ l. p ∷ l) (leads_walk l next (get_or next p 0) leads.1))
+
+-- what follows a place
+pub leads_past : (before after : List ℕ) (next : List ℕ) (first p : ℕ) → Leads next first (before ++ after) → last_or None before ≡ Some p → Leads next (get_or next p 0) after
+leads_past [] after next first p leads is = absurd (cc is)
+leads_past (q ∷ []) after next first p leads is = (let e : q ≡ p = cc is in subst (λ q. Leads next (get_or next q 0) after) e leads.1)
+leads_past (q ∷ r ∷ before) after next first p leads is = leads_past (r ∷ before) after next (get_or next q 0) p leads.1 is
+
+-- another list follows one, after its last place
+pub leads_on : (l m : List ℕ) (next : List ℕ) (first p : ℕ) → Leads next first l → last_or None l ≡ Some p → Leads next (get_or next p 0) m → Leads next first (l ++ m)
+leads_on [] m next first p leads is goes = absurd (cc is)
+leads_on (q ∷ []) m next first p leads is goes = (leads.0, subst (λ q. Leads next (get_or next q 0) m) (let e : p ≡ q = cc is in e) goes)
+leads_on (q ∷ r ∷ l) m next first p leads is goes = (leads.0, leads_on (r ∷ l) m next (get_or next q 0) p leads.1 is goes)
+
+pub walk_next : (n : ℕ) (next : List ℕ) (first p q : ℕ) (before after rest : List ℕ) → walk n next first ≡ before ++ after → last_or None before ≡ Some p → after ≡ q ∷ rest → q ≡ get_or next p 0
+walk_next n next first p q before after rest is at more = (subst (Leads next (get_or next p 0)) more (leads_past before after next first p (subst (Leads next first) is (walk_leads n next first)) at)).0
+
+pub leads_other : (l : List ℕ) (next : List ℕ) (first p x : ℕ) → times p l ≡ 0 → Leads next first l → Leads (set next p x) first l
+leads_other [] next first p x none leads = tt
+leads_other (q ∷ l) next first p x none leads = (leads.0, subst (λ y. Leads (set next p x) y l) (sym (get_or-set_other next p q x 0 (λ e. absurd (omega (arith, none, times_here p l, ap (λ q. times p (q ∷ l)) e))))) (leads_other l next (get_or next q 0) p x (omega (arith, none)) leads.1))
+
+-- another list comes after a place
+pub leads_join : (before after rest : List ℕ) (next : List ℕ) (first p head : ℕ) → Leads next first (before ++ after) → last_or None before ≡ Some p → Leads next head rest → ((p : ℕ) → times p before + times p rest ≤ 1) → p < length next → Leads (set next p head) first (before ++ rest)
+leads_join [] after rest next first p head leads is goes apart within = absurd (cc is)
+leads_join (q ∷ []) after rest next first p head leads is goes apart within = search (rules, get_or-set_same, leads_other rest next head p head, last_in p (q ∷ []) is, apart p)
+leads_join (q ∷ r ∷ before) after rest next first p head leads is goes apart within = search (rules, get_or-set_other, last_in p (r ∷ before) is, apart, times_here p (r ∷ before), leads_join (r ∷ before) after rest next (get_or next q 0) p head leads.1 is goes)
+
+-- another list is put into one that is cut there
+module _ (next before b after : List ℕ) (first head end : ℕ) (leads : Leads next first (before ++ after)) (goes : Leads next head b) (ends : last_or None b ≡ Some end) (few : (p : ℕ) → times p before + times p after + times p b ≤ 1) (there : end < length next) where
+  to_rest : (past : ℕ) → Leads next past after → Leads (set next end past) head (b ++ after)
+  to_rest past on = leads_join b [] after next head end past (subst (Leads next head) (sym (append-nil b)) goes) ends on (λ p. omega (arith, few p)) there
+
+  pub put_first : last_or None before ≡ None → Leads (set next end first) head (before ++ (b ++ after))
+  put_first at = subst (λ l. Leads (set next end first) head (l ++ (b ++ after))) (sym (none_before before at)) (to_rest first (subst (λ l. Leads next first (l ++ after)) (none_before before at) leads))
+
+  pub put_after : (near past : ℕ) → last_or None before ≡ Some near → near < length next → Leads next past after → Leads (set (set next end past) near head) first (before ++ (b ++ after))
+  put_after near past at within on =
+      let apart = leads_other (before ++ after) next first end past (omega (arith, few end, last_in end b ends, times_append end before after)) leads in
+      leads_join before after (b ++ after) (set next end past) first near head apart at (to_rest past on) (λ p. omega (arith, few p, times_append p b after)) (omega (arith, within, length-set next end past))
+
+-- two lists rise together, if no place of the first one has a greater number than one of the second
+pub rises_join : (n : ℕ → ℕ) (l m : List ℕ) → Rises n l → Rises n m → ((p q : ℕ) → times p l ≢ 0 → times q m ≢ 0 → n p ≤ n q) → Rises n (l ++ m)
+rises_join n [] m left right less before after p q is some = right before after p q is some
+rises_join n (x ∷ l) m left right less [] after p q is some = grind (arith, times_append q l m, left [] l x q refl, less x q, times_here x l)
+rises_join n (x ∷ l) m left right less (y ∷ before) after p q is some = rises_join n l m (λ before after p q is. left (x ∷ before) after p q (ap (λ l. x ∷ l) is)) right (λ p q some. less p q (λ none. some (omega (arith, none)))) before after p q (cc is) some
+
+pub rises_parts : (n : ℕ → ℕ) (l m : List ℕ) → Rises n (l ++ m) → Rises n l × Rises n m
+rises_parts n l m rises = (λ before after p q is some. rises before (after ++ m) p q (ap (λ l. l ++ m) is ∙ append_assoc before (p ∷ after) m) (λ none. some (omega (arith, none, times_append q after m))), λ before after p q is some. rises (l ++ before) after p q (ap (λ m. l ++ m) is ∙ sym (append_assoc l before (p ∷ after))) some)
+
+-- the numbers along a list count alone
+pub rises_same : (n n' : ℕ → ℕ) (l : List ℕ) → ((p : ℕ) → times p l ≢ 0 → n' p ≡ n p) → Rises n l → Rises n' l
+rises_same n n' l same rises before after p q is some = grind (arith, rises before after p q is some, same p, same q, times_append p before (p ∷ after), times_append q before (p ∷ after), times_here p after, ap (times p) is, ap (times q) is)
+
+-- along a list that rises no number is smaller than the first one, or greater than the last one
+pub rises_first : (n : ℕ → ℕ) (q p : ℕ) (l : List ℕ) → Rises n (q ∷ l) → times p (q ∷ l) ≢ 0 → n q ≤ n p
+rises_first n q p l rises some = grind (arith, cases_eq p q, times_there p q l, rises [] l q p refl)
+
+pub rises_last : (n : ℕ → ℕ) (o : Option ℕ) (l : List ℕ) (last p : ℕ) → Rises n l → last_or o l ≡ Some last → times p l ≢ 0 → n p ≤ n last
+rises_last n o [] last p rises is some = absurd (some refl)
+rises_last n o (q ∷ l) last p rises is some = grind (arith, cases_eq p q, rises_first n q last l rises (last_in last (q ∷ l) is), times_there p q l, rises_last n (Some q) l last p (rises_parts n (q ∷ []) l rises).1 is)
+
+-- the numbers of a list that rises are past this one if the first is
+pub past_first : (n : ℕ → ℕ) (f : ℕ) (l : List ℕ) → Rises n l → ((q : ℕ) (rest : List ℕ) → l ≡ q ∷ rest → f < n q) → (p : ℕ) → times p l ≢ 0 → f < n p
+past_first n f [] rises later p some = absurd (some refl)
+past_first n f (q ∷ l) rises later p some = omega (arith, later q l refl, rises_first n q p l rises some)
+
+-- a list whose places have one number comes between smaller and greater ones
+pub rises_between : (n : ℕ → ℕ) (f : ℕ) (before b after : List ℕ) → Rises n (before ++ after) → ((p : ℕ) → times p before ≢ 0 → n p ≤ f) → ((p : ℕ) → times p after ≢ 0 → f < n p) → ((p : ℕ) → times p b ≢ 0 → n p ≡ f) → Rises n (before ++ (b ++ after))
+rises_between n f before b after rises early late now =
+    let parts = rises_parts n before after rises in
+    let among : Rises n b = rises_same (λ p. f) n b now (λ x y p q is some. omega arith) in
+    rises_join n before (b ++ after) parts.0 (rises_join n b after among parts.1 (λ p q some there. omega (arith, now p some, late q there))) (λ p q some there. grind (arith, times_append q b after, early p some, now q, late q))

@@ -28,6 +28,13 @@ module _ {T : Type 0} where
   count_as a b [] same = refl
   count_as a b (s ∷ slots) same = let e = ap bit (same 0 (omega arith)) in let h = count_as a b slots (λ p lt. same (suc p) (omega arith)) in omega arith
 
+  -- as many slots pass the test, if at each place the slot does as before
+  pub count_same : (test : Slot T → Bool) (l m : List (Slot T)) → length m ≡ length l → ((p : ℕ) → test (slot_at m p) ≡ test (slot_at l p)) → count test m ≡ count test l
+  count_same test [] [] long same = refl
+  count_same test [] (y ∷ m) long same = absurd (omega arith)
+  count_same test (x ∷ l) [] long same = absurd (omega arith)
+  count_same test (x ∷ l) (y ∷ m) long same = let a = ap bit (same 0) in let h = count_same test l m (omega arith) (λ p. same (suc p)) in omega arith
+
   pub count_few : (test : Slot T → Bool) (slots : List (Slot T)) → count test slots ≤ length slots
   count_few test [] = omega arith
   count_few test (s ∷ slots) = let b = bit_few (test s) in let h = count_few test slots in omega arith

@@ -7,6 +7,7 @@ pub mod Entries
 pub mod Growing
 pub mod Heads
 pub mod Holding
+pub mod Keeping
 pub mod Leaving
 pub mod Linking
 pub mod Listed

@@ -1,5 +1,5 @@
 -- Lists of the places of slots that pass a test, when a slot changes: for the chains of slots (`Chains`) and the queue (`Waiting`).
-use Rattle.descriptor_table.proofs.Common.{common_steps, ◌≡◌, ◌≢◌, ℕ, zero, suc, ◌+◌, ◌<◌, ◌≤◌, Bool, true, false, if◌then◌else◌, List, [], ◌∷◌, length, set, sym, ap, ◌∙◌, arith, get_or-set_other, get_or-set_same, get_or_past, cases_eq, times, Lists, Slot, no_slot, slot_at}
+use Rattle.descriptor_table.proofs.Common.{common_steps, ◌≡◌, ◌≢◌, ℕ, zero, suc, ◌+◌, ◌<◌, ◌≤◌, Bool, true, false, if◌then◌else◌, List, [], ◌∷◌, length, set, refl, sym, ap, ◌∙◌, arith, get_or-set_other, get_or-set_same, get_or_past, cases_eq, times, Lists, Slot, no_slot, slot_at}
 use Rattle.descriptor_table.proofs.Common.{used_for, Use}
 use Rattle.descriptor_table.proofs.Counting.{times_here, times_there}
 
@@ -12,6 +12,11 @@ one_less x0 n e = grind (arith, common_steps)
 
 pub one_none : (b : Bool) → bit b ≡ 0 → b ≡ false
 one_none x0 e = grind (arith, common_steps)
+
+-- what isn't false is true
+pub member : (b : Bool) → (b ≡ false → ⊥) → b ≡ true
+member true some = refl
+member false some = absurd (some refl)
 
 module _ {T : Type 0} where
   -- the slots, with one in use for this

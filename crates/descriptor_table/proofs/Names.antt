@@ -1,5 +1,18 @@
 -- The handles of names: `n` says which each has, and `each` that a list's are those of its names.
-use Rattle.descriptor_table.proofs.Common.{◌≡◌, ℕ, ◌<◌, List, ◌++◌, length, get_or, set, map, sym, ap, ◌∙◌, get_or-map, length-map, map-append, map-set, place_at, SetHandle, Ghosts}
+use Rattle.std.specs.List.{slice_get}
+use Rattle.std.specs.Prelude.{reverse}
+use Rattle.std.proofs.lemmas.List.{reverse-append}
+use Rattle.descriptor_table.proofs.Counting.{last_append}
+use Rattle.descriptor_table.proofs.Common.{◌≡◌, ℕ, ◌<◌, List, [], ◌∷◌, None, Some, last_or, ◌++◌, length, get_or, set, map, sym, ap, ◌∙◌, get_or-map, length-map, map-append, map-set, place_at, SetHandle, Ghosts, ◌≢◌, arith}
+
+-- the first of names, if there is one
+pub first_read : {N : Type 0} (names : List N) (name d : N) → Some name ≡ slice_get names 0 → name ≡ get_or names 0 d
+first_read [] name d is = absurd (cc is)
+first_read (x ∷ names) name d is = cc is
+
+pub some_names : {N : Type 0} (names : List N) (name : N) → Some name ≡ slice_get names 0 → length names ≢ 0
+some_names [] name is = absurd (cc is)
+some_names (x ∷ names) name is = λ none. omega (arith, none)
 
 module _ {N T : Type 0} (n : Ghosts N T) (each : (names : List N) → n.handles_of names ≡ map n.handle_of names) where
   -- as many as there are names
@@ -20,3 +33,11 @@ module _ {N T : Type 0} (n : Ghosts N T) (each : (names : List N) → n.handles_
   -- the handles of two lists
   pub handles_both : (a b : List N) → n.handles_of (a ++ b) ≡ n.handles_of a ++ n.handles_of b
   handles_both a b = each (a ++ b) ∙ map-append n.handle_of a b ∙ (λ i. sym (each a) i ++ sym (each b) i)
+
+  -- backwards the first name's set comes last
+  pub names_last : (names : List N) (name : N) (h : SetHandle) → Some name ≡ slice_get names 0 → h ≡ n.handle_of name → last_or None (reverse (map (λ (h : SetHandle). h.place) (n.handles_of names))) ≡ Some h.place
+  names_last [] name h is read = absurd (cc is)
+  names_last (x ∷ names) name h is read =
+      let rest = map (λ (h : SetHandle). h.place) (map n.handle_of names) in
+      let first : n.handle_of x ≡ h = cc (is, read) in
+      ap (λ l. last_or None (reverse (map (λ (h : SetHandle). h.place) l))) (each (x ∷ names)) ∙ ap (last_or None) (reverse-append ((n.handle_of x).place ∷ []) rest) ∙ last_append None (reverse rest) ((n.handle_of x).place ∷ []) ∙ ap (λ (h : SetHandle). Some h.place) first

@@ -55,9 +55,6 @@ module _ {T : Type 0} where
     not_last : (other : SetHandle) → ((i : ℕ) (e : SetHandle) → i < length handles → slice_index_or handles i e ≢ other) → (i : ℕ) → i < length handles → place_at handles i ≡ other.place → (b : Bool) → is_last number old other ≡ b → b ≡ false
     not_last other apart i lt e x5 l = search (rules, and_true, eqb-true, handle_is, held_is)
 
-    abbrev finds : ℕ → Slot T → SetHandle → Option T
-    finds n s h = if ((h.manager == number) && (h.generation == n)) && is_live frame opened s.used then s.set else None
-
     -- the handles name nothing, and each other one what it named
     pub names_lost : LoseNames handles (sets_of number frame opened old) (sets_of number frame opened new)
     names_lost = record {

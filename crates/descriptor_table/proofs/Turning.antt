@@ -1,10 +1,10 @@
--- Slots that pass a test are changed, one after another, as in the loops of `SetTable`: `settle_due`, `wait_each`, `trim` and others.
+-- Slots that pass a test are changed, one after another, as in the loops of `SetTable`: `settle_due`, `age`, `trim` and others.
 -- `old` are the slots before a loop, `now` those before a step of it, `new` those after; `Turning` is the loop's invariant, and `Turns`
 -- what it leaves at its end. A set that is freed *settles*: it is kept, or goes. `o` is a slot before that, `n` the same slot after.
 use Rattle.descriptor_table.proofs.Common.{common_steps, ◌≡◌, ◌≢◌, ℕ, zero, suc, ◌+◌, ◌<◌, ◌≤◌, ◌⊎◌, ◌&&◌, Bool, true, false, if◌then◌else◌, List, [], ◌∷◌, length, set, ne_eqb, is_some, inl, refl, sym, ap, ◌∙◌, arith, nat_le, rules, length-set, set-set, cases_eq, ltb-false, true≢false}
-use Rattle.descriptor_table.proofs.Common.{IsNowhere, Slot, count, is_due, is_in, slot_at, waits_for, Settings, CanBeHeld, IsBack, MayBecome, Picks, Stays, Turns, removed_of, holds, is_kept, next_use, stays, used_for, Becomes, settings_of, SetTable, Use, Going, Kept, Taken}
+use Rattle.descriptor_table.proofs.Common.{IsNowhere, Slot, count, is_due, is_in, slot_at, waits_for, Settings, IsBack, MayBecome, Picks, Stays, Turns, removed_of, is_kept, next_use, used_for, Becomes, settings_of, SetTable, Use, Going, Taken}
 use Rattle.descriptor_table.proofs.Chains.{and_true, lists_apart, nowhere_out}
-use Rattle.descriptor_table.proofs.Counts.{count_set, same_count}
+use Rattle.descriptor_table.proofs.Counts.{count_same, count_set, same_count}
 use Rattle.descriptor_table.proofs.Listed.{bit, other_slots, slot_set, with_use}
 
 module _ {T : Type 0} where
@@ -51,14 +51,6 @@ module _ {T : Type 0} where
   pub settled_not_due : (removed : ℕ → Bool) (frame max : ℕ) (l : List (Slot T)) (o n : Slot T) → IsBack (used_for Going) removed max l o n → is_due frame n ≡ false
   settled_not_due removed frame max l o n x6 = grind (arith, common_steps)
 
-  -- a set was kept
-  abbrev pub IsKept : (ℕ → Bool) → List (Slot T) → Slot T → Slot T → Type 0
-  IsKept removed l o n = (n ≡ used_for Kept o) × (stays removed o ≡ true)
-
-  -- so only its use changed, and it can be held again
-  pub kept_only : (removed : ℕ → Bool) (l : List (Slot T)) (o x : Slot T) → holds o ≡ true → IsKept removed l o x → (x ≡ used_for x.used o) × CanBeHeld x
-  kept_only removed l o x held kept = grind (arith, common_steps)
-
   -- a set that waits, or that a call has, is in no list
   pub due_not_listed : (frame : ℕ) (s : Slot T) → is_due frame s ≡ true → (k : ℕ) → is_in k s ≡ false
   due_not_listed frame s e k = search rules
@@ -82,9 +74,6 @@ module _ {T : Type 0} where
   -- a slot that passed the test doesn't any more
   pub one_less : (test : Slot T → Bool) (now new : List (Slot T)) (p : ℕ) (s : Slot T) → p < length now → test (slot_at now p) ≡ true → test s ≡ false → new ≡ set now p s → count test new + 1 ≡ count test now
   one_less test now new p s within was gone is = search (rules, bit, count_set)
-
-  pub one_fewer : (test : Slot T → Bool) (now new : List (Slot T)) (p : ℕ) (s : Slot T) → p < length now → test (slot_at now p) ≡ true → test s ≡ false → new ≡ set now p s → count test new < count test now
-  one_fewer test now new p s within was gone is = search (rules, bit, count_set)
 
   -- a step of a loop whose sets go: a slot that passed the test was picked, and goes
   module _ (test : Slot T → Bool) (now mid new : List (Slot T)) (p : ℕ) (picks : Picks test (used_for Taken) p now mid) (goes : new ≡ with_use p Going mid) (out : (s : Slot T) → test (used_for Going s) ≡ false) where
@@ -110,13 +99,6 @@ module _ {T : Type 0} where
 
   pub stays_same : (a : SetTable T) → Stays a a
   stays_same a = record { settings = refl; space = refl }
-
-  -- as many slots pass the test, if at each place the slot does as before
-  pub count_same : (test : Slot T → Bool) (l m : List (Slot T)) → length m ≡ length l → ((p : ℕ) → test (slot_at m p) ≡ test (slot_at l p)) → count test m ≡ count test l
-  count_same test [] [] long same = refl
-  count_same test [] (y ∷ m) long same = absurd (omega arith)
-  count_same test (x ∷ l) [] long same = absurd (omega arith)
-  count_same test (x ∷ l) (y ∷ m) long same = let a = ap bit (same 0) in let h = count_same test l m (omega arith) (λ p. same (suc p)) in omega arith
 
   module _ (k : ℕ) (two : 2 ≤ k) (now new : List (Slot T)) (turns : Turns (is_in k) (MayBecome (used_for Going)) now new) where
     -- after kept sets of one list more may have gone

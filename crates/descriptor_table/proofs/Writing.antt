@@ -1,16 +1,10 @@
 -- A slot came to a list: for the methods of `SetTable`. `t` is the table before.
-use Rattle.descriptor_table.proofs.Common.{◌≡◌, ℕ, ◌+◌, ◌<◌, ◌≤◌, false, true, List, get_or, length, set, refl, sym, ap, subst, ◌∙◌, arith, AreLinked, AreSound, IsNowhere, Slot, chain_at, is_in, nexts_in, slot_at, slots_in, times, waits, places_in, HasList, Settings, layouts_of, settings_of, slots_of}
-use Rattle.descriptor_table.proofs.Common.{chains_in, SetTable, Group, KeptOf, SlotList}
-use Rattle.descriptor_table.specs.declared.giving.Group.TheVariants.{Going}
+use Rattle.descriptor_table.proofs.Common.{◌≡◌, ℕ, ◌+◌, ◌<◌, ◌≤◌, false, true, List, get_or, length, set, refl, ap, ◌∙◌, arith, AreLinked, AreSound, IsNowhere, Slot, chain_at, is_in, nexts_in, slot_at, slots_in, times, waits, places_in, layouts_of, slots_of}
+use Rattle.descriptor_table.proofs.Common.{chains_in, SetTable, SlotList}
 use Rattle.descriptor_table.proofs.Chains.{after_linked, held_nowhere, link_linked, link_more, listed_out, nowhere_out}
 use Rattle.descriptor_table.proofs.Counting.{walk_other}
 use Rattle.descriptor_table.proofs.Listed.{not_listed}
 use Rattle.descriptor_table.proofs.Sound.{link_sound, listed, same_long}
-
--- with settings as they were a group has a list as before
-pub has_still : {T : Type 0} (a b : SetTable T) → settings_of b ≡ settings_of a → (group : Group) → HasList group a.lists → HasList group b.lists
-has_still a b same Going has = tt
-has_still a b same (KeptOf n) has = (subst (λ (s : Settings). n < s.layouts) (sym same) has.0, ap (λ (s : Settings). s.removed n) same ∙ has.1)
 
 -- a slot that is in no list came to one
 module _ {T : Type 0} (t : SetTable T) (k p : ℕ) (s : Slot T) (within : p < length (slots_of t)) (idle : IsNowhere (slot_at (slots_of t) p).used) (goes : is_in k s ≡ true) where

@@ -1,7 +1,7 @@
 -- Slots, and the lists that they are in.
-use Rattle.std.specs.Prelude.{map, slice_set, vec_capacity, MatchOption, Option, Some, ◌≡◌, ℕ, suc, ◌+◌, ◌%◌, ◌<◌, ◌≤◌, ◌==◌, ◌&&◌, nat_le, nat_lt, Bool, true, false, List, [], ◌∷◌, length, ⊤, slice_index_or, if◌then◌else◌, None, is_some, not}
-use Rattle.std.specs.List.Sorted.{IsNonDecreasingBy}
-use Rattle.descriptor_table.specs.Places.{times, users_at, walk}
+use Rattle.std.specs.Prelude.{map, slice_set, vec_capacity, Option, Some, ◌≡◌, ℕ, ◌+◌, ◌%◌, ◌<◌, ◌≤◌, ◌==◌, ◌&&◌, nat_le, nat_lt, Bool, true, false, List, [], ◌∷◌, length, ⊤, slice_index_or, if◌then◌else◌, None, is_some, not}
+use Rattle.std.specs.List.{last_or}
+use Rattle.descriptor_table.specs.Places.{Rises, times, users_at, walk}
 use Rattle.descriptor_table.specs.declared.slot.Use.{Use}
 use Rattle.descriptor_table.specs.declared.slot.Use.TheVariants.{Held, InFrame, Waits, Kept, Going, Taken, Vacant}
 use Rattle.descriptor_table.specs.declared.slot.State.{State}
@@ -70,10 +70,6 @@ chain_at chains k = slice_index_or chains k (record { first = 0; count = 0 })
 abbrev pub places_in : List ℕ → Queue → List ℕ
 places_in next q = walk q.list.count next q.list.first
 
--- the place that comes before the k-th one of a list, none before the first
-abbrev pub IsBefore : List ℕ → ℕ → Option ℕ → Type 0
-IsBefore places k near = MatchOption near (k ≡ 0) (λ p. (i : ℕ) × (i < length places) × (k ≡ suc i) × ((d : ℕ) → slice_index_or places i d ≡ p))
-
 -- whether a list is that of a removed layout, which shows as empty
 abbrev pub is_removed : Chain → Bool
 is_removed c = c.count == 4294967295
@@ -93,6 +89,10 @@ module _ {T : Type 0} where
   -- the slot at a place, or else the slot past the end
   abbrev pub slot_at : Slots T → ℕ → Slot T
   slot_at slots place = slice_index_or slots place no_slot
+
+  -- the frame that the set at a place waits for, or 0
+  abbrev pub frame_at : Slots T → ℕ → ℕ
+  frame_at slots place = frame_of (slot_at slots place).used
 
   -- the slot with this set, which a call has taken
   abbrev pub filled : ℕ → T → Slot T → Slot T
@@ -151,8 +151,8 @@ module _ {T : Type 0} where
   pub record IsQueue (slots : Slots T) (places : List ℕ) (last : ℕ) : Type 0 where
     pub has : Lists waits slots places
     -- along it no set waits for an earlier frame than the one before it
-    pub rises : IsNonDecreasingBy (λ p. frame_of (slot_at slots p).used) places
-    pub ends : (i d : ℕ) → length places ≡ suc i → slice_index_or places i d ≡ last
+    pub rises : Rises (frame_at slots) places
+    pub ends : last_or (Some last) places ≡ Some last
 
   -- the layout of a slot has a list. A held set is there
   pub record IsListed (layouts : ℕ) (s : Slot T) : Type 0 where

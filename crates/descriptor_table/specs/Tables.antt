@@ -1,6 +1,6 @@
 -- How calls change the slots of a table.
 use Rattle.std.specs.Prelude.{◌≡◌, ◌≢◌, ℕ, ◌+◌, ◌-◌, ◌<◌, ◌≤◌, ◌⊎◌, ◌==◌, ◌&&◌, nat_lt, not, Bool, true, false, List, length, slice_index_or, slice_set, vec_capacity, is_some, if◌then◌else◌, Option, Some, None, MatchOption}
-use Rattle.descriptor_table.specs.Slots.{IsNowhere, Slot, Slots, count, slots_in, space_in, filled, is_in, is_kept_of, is_set_of, slot_at}
+use Rattle.descriptor_table.specs.Slots.{Slot, Slots, count, slots_in, space_in, filled, is_in, is_kept_of, is_set_of, slot_at}
 use Rattle.descriptor_table.specs.Lists.{layouts_in, removed_in}
 use Rattle.descriptor_table.specs.Users.{HasNumberRoom}
 use Rattle.descriptor_table.specs.declared.handle.SetHandle.{SetHandle}
@@ -132,6 +132,11 @@ module _ {T : Type 0} where
   abbrev pub stays : (ℕ → Bool) → Slot T → Bool
   stays removed s = (nat_lt s.generation 4294967295 && not s.is_aged) && not (removed s.layout)
 
+  -- whether a set may be kept in the list of this layout, if there is one
+  abbrev pub may_join : Option ℕ → Slot T → Bool
+  may_join None s = true
+  may_join (Some layout) s = stays (λ l. not (l == layout)) s
+
   -- whether a set is kept, if at most `max` of its layout are
   abbrev pub may_stay : (ℕ → Bool) → ℕ → Slots T → Slot T → Bool
   may_stay removed max slots s = stays removed s && nat_lt (count (is_kept_of s.layout) slots) max
@@ -203,10 +208,6 @@ module _ {T : Type 0} where
   -- a set that passes the test was taken out of its slot, or there is none
   abbrev pub GivesAny : (Slot T → Bool) → Option T → Slots T → Slots T → Type 0
   GivesAny test result old new = MatchOption result (PicksNone test old new) (λ x. (p : ℕ) × Picks test vacated p old new × ((slot_at old p).set ≡ Some x))
-
-  -- a slot has a set that is held, that a call has, or that is kept
-  abbrev pub CanBeHeld : Slot T → Type 0
-  CanBeHeld s = (is_some s.set ≡ true) × (IsNowhere s.used ⊎ (is_kept s ≡ true))
 
   -- the slots of the handles became what the relation says, given the new slots. All others are as they were
   pub record TurnEach (handles : List SetHandle) (becomes : Slots T → Slot T → Slot T → Type 0) (old new : Slots T) : Type 0 where

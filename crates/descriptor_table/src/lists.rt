@@ -80,6 +80,21 @@ impl Lists {
         }
     }
 
+    /// Puts slots first in the list of a layout. The next of the last one is to be the one that was first.
+    #[inline]
+    pub(crate) fn prepend(&mut self, layout: usize, first: u32, many: u32)
+        requires there { HasList (Group.KeptOf layout) self.old }
+        requires few { (chain_at (chains_in self.old) (layout + 2)).count + many < 4294967295 }
+        ensures { Relisted (layout + 2) (record {
+          first = first;
+          count = (chain_at (chains_in self.old) (layout + 2)).count + many;
+        }) self.old self.new }
+    {
+        let list = &mut self.kept[layout];
+        list.first = first;
+        list.count += many;
+    }
+
     /// Takes the first slot from the list of a group, with the one that comes next.
     #[inline]
     pub(crate) fn pop(&mut self, group: Group, next: u32)

@@ -7,16 +7,15 @@ ghost use Rattle.descriptor_table.specs.Users.{users_in};
 
 mod back;
 mod counts;
-mod handles;
 mod layouts;
 mod lists;
 mod sets;
 mod waiting;
 
 use self::waiting::FRAMES;
-use crate::handle::{SetHandle, SetName};
+use crate::handle::SetHandle;
 use crate::lists::Lists;
-use crate::slot::{Chain, Queue, Use};
+use crate::slot::{Chain, Queue};
 use crate::slot_list::{AGED, SlotList};
 use crate::users::LayoutUsers;
 use std::alloc::{AllocError, Global};
@@ -56,7 +55,7 @@ pub struct SetTable<T> {
 }
 
 impl<T> SetTable<T> {
-    ghost use Rattle.descriptor_table.specs.Sets.{find, is_held, is_last};
+    ghost use Rattle.descriptor_table.specs.Sets.{find};
     ghost use Rattle.descriptor_table.specs.Tables.{HasPlaces, HasRoom, settings_of};
     ghost use Rattle.descriptor_table.specs.Tables.{is_usable, slots_of};
 
@@ -96,22 +95,6 @@ impl<T> SetTable<T> {
             return None;
         }
         slot.set.as_ref()
-    }
-
-    /// Whether a name is that of a held set.
-    #[inline]
-    fn holds<N: SetName<T>>(&self, name: &N) -> bool
-        ensures { result ≡ (N.fit name.now (slot_at (slots_of self.now) (N.handle_of name.now).place).set
-            && is_held self.now.number (slots_of self.now) (N.handle_of name.now)) }
-    {
-        let Some(slot) = self.slots.last(self.number, name.handle()) else {
-            return false;
-        };
-        match slot.used() {
-            Use::Held => name.fits(slot.set.as_ref()),
-            Use::InFrame(_) | Use::Waits(_) | Use::Kept | Use::Going | Use::Taken | Use::Vacant =>
-                false,
-        }
     }
 
     /// Reserves memory for `additional` more sets: slots without a set, and new slots for the others.

@@ -8,9 +8,10 @@ use crate::handle::SetName;
 use crate::slot::Use;
 
 impl<T> SetTable<T> {
+    ghost use Rattle.descriptor_table.specs.Lists.{HasList};
     ghost use Rattle.descriptor_table.specs.Sets.{AllFit, AreHeldOnce, is_held};
     ghost use Rattle.descriptor_table.specs.Slots.{IsNowhere, Slot, count, is_due, is_in, is_kept_of, slot_at, waits};
-    ghost use Rattle.descriptor_table.specs.Tables.{At, Becomes, CanBeHeld, Changes, HasTaken};
+    ghost use Rattle.descriptor_table.specs.Tables.{At, Becomes, Changes, HasTaken};
     ghost use Rattle.descriptor_table.specs.Tables.{IsBack, MayBecome};
     ghost use Rattle.descriptor_table.specs.Tables.{Stays, TurnEach, Turns};
     ghost use Rattle.descriptor_table.specs.Tables.{holds, is_kept, removed_of};
@@ -85,11 +86,24 @@ impl<T> SetTable<T> {
         ensures none { IsFalse result → slots_of self.new ≡ slots_of self.old }
         ensures stays { Stays self.old self.new }
     {
-        self.holds(name) && self.keep_at(name.handle().place as usize)
+        self.slots.holds(self.number, name) && self.keep_at(name.handle().place as usize)
     }
 
-    /// Keeps the held sets of `names`, all or none. If a name has no held set, or one that may not be kept, it
-    /// keeps none and returns `false`.
+    /// The layout of the slot at a place, if `many` more sets of it can be kept.
+    #[inline(always)]
+    fn list_with_room(&self, place: u32, many: usize) -> Option<usize>
+        requires some { many ≢ 0 }
+        ensures { IfSome result (λ layout. HasList (Group.KeptOf layout) self.now.lists
+            × (count (is_kept_of layout) (slots_of self.now) + many ≤ self.now.keep)) }
+    {
+        let layout = self.slots.get(place)?.list() as usize;
+        let list = self.lists.kept.get(layout)?;
+        let most = self.keep as usize;
+        (many <= most.saturating_sub(list.count as usize)).then_some(layout)
+    }
+
+    /// Keeps the held sets of `names`, all or none, in the list of the first one's layout. If a name has no held
+    /// set, or if they can't all be kept there, it keeps none and returns `false`.
     #[inline(always)]
     fn keep_each<N: SetName<T>>(&mut self, names: &[N]) -> bool
         ensures once { IsTrue result → AreHeldOnce self.old.number (slots_of self.old)
@@ -99,13 +113,40 @@ impl<T> SetTable<T> {
         ensures none { IsFalse result → slots_of self.new ≡ slots_of self.old }
         ensures stays { Stays self.old self.new }
     {
-        for index in 0..names.len() {
-            if !self.keep_named(&names[index]) {
-                self.put_back(names, index);
-                return false;
-            }
+        let Some(name) = names.first() else {
+            return true;
+        };
+        // The loop takes a tenth more for a set that is freed alone.
+        if names.len() == 1 {
+            return self.keep_named(name);
         }
+        let Some(layout) = self.list_with_room(name.handle().place, names.len()) else {
+            return false;
+        };
+        let next = self.lists.first(Group::KeptOf(layout));
+        let Some(first) = self
+            .slots
+            .use_each(self.number, names, Use::Kept, Some(layout as u32), next)
+        else {
+            return false;
+        };
+        self.lists.prepend(layout, first, names.len() as u32);
         true
+    }
+
+    /// Takes the held sets of `names`, all or none. If a name has no held set, or is in the list twice,
+    /// it takes none and returns `false`.
+    pub fn take_each<N: SetName<T>>(&mut self, names: &[N]) -> bool
+        ensures once { IsTrue result ↔ (AreHeldOnce self.old.number (slots_of self.old)
+            (N.handles_of names.now) × AllFit N.handle_of N.fit (slots_of self.old) names.now) }
+        ensures took { IsTrue result → TurnEach (N.handles_of names.now)
+            (Becomes (used_for Use.Taken)) (slots_of self.old) (slots_of self.new) }
+        ensures none { IsFalse result → slots_of self.new ≡ slots_of self.old }
+        ensures stays { Stays self.old self.new }
+    {
+        self.slots
+            .use_each(self.number, names, Use::Taken, None, 0)
+            .is_some()
     }
 
     /// Keeps the sets of `names`, or lets them go. A call has taken them.

@@ -1,8 +1,8 @@
 //! The queue of the sets that wait for a frame.
-ghost use Rattle.std.specs.Prelude.{◌≡◌, ◌≢◌, ℕ, suc, ◌+◌, ◌++◌, ◌<◌, ◌≤◌, ◌↔◌, IfSome, IsFalse, IsTrue, List, None, drop, false, is_some, length, slice_index_or, slice_set, take, true};
-ghost use Rattle.std.specs.List.Sorted.{IsNonDecreasingBy, IsPartitionPoint};
-ghost use Rattle.descriptor_table.specs.Places.{times};
-ghost use Rattle.descriptor_table.specs.Slots.{IsBefore, IsQueue, Slot, frame_of, nexts_in, places_in, slot_at, slots_in, space_in, waits};
+ghost use Rattle.std.specs.Prelude.{◌≡◌, ◌≢◌, ℕ, ◌+◌, ◌++◌, ◌<◌, ◌≤◌, ◌↔◌, IfSome, IsFalse, IsTrue, List, None, Some, false, is_some, length, slice_index_or, slice_set, true};
+ghost use Rattle.std.specs.List.{last_or};
+ghost use Rattle.descriptor_table.specs.Places.{Rises, times};
+ghost use Rattle.descriptor_table.specs.Slots.{IsQueue, Lists, Slot, frame_at, nexts_in, places_in, slot_at, slots_in, space_in, waits};
 
 use super::SetTable;
 use crate::handle::SetName;
@@ -14,13 +14,13 @@ pub(super) const FRAMES: u64 = 8;
 
 /// A place in the queue of a set that waits for this frame or an earlier one: `hint`, or the first one. `None`
 /// if there is none.
-fn start<T>(slots: &SlotList<T>, queue: Queue, hint: u32, frame: u64) -> Option<u32>
+fn due_place<T>(slots: &SlotList<T>, queue: Queue, hint: u32, frame: u64) -> Option<u32>
     requires some { queue.list.count ≢ 0 }
     requires hint { waits (slot_at (slots_in slots.now) hint) ≡ true
         → times hint (places_in (nexts_in slots.now) queue) ≢ 0 }
     ensures found { IfSome result (λ place. (times place (places_in (nexts_in slots.now) queue) ≢ 0)
-        × (frame_of (slot_at (slots_in slots.now) place).used ≤ frame)) }
-    ensures none { result ≡ None → frame < frame_of (slot_at (slots_in slots.now) queue.list.first).used }
+        × (frame_at (slots_in slots.now) place ≤ frame)) }
+    ensures none { result ≡ None → frame < frame_at (slots_in slots.now) queue.list.first }
 {
     if slots.is_due(hint, frame) {
         return Some(hint);
@@ -38,16 +38,14 @@ fn earlier_place<T>(slots: &SlotList<T>, queue: Queue, hint: u32, frame: u64) ->
     requires some { queue.list.count ≢ 0 }
     requires hint { waits (slot_at (slots_in slots.now) hint) ≡ true
         → times hint (places_in (nexts_in slots.now) queue) ≢ 0 }
-    requires rises { IsNonDecreasingBy (λ p. frame_of (slot_at (slots_in slots.now) p).used)
-        (places_in (nexts_in slots.now) queue) }
-    requires ends { (i d : ℕ) → queue.list.count ≡ suc i
-        → slice_index_or (places_in (nexts_in slots.now) queue) i d ≡ queue.last }
-    ensures { (k : ℕ) × IsBefore (places_in (nexts_in slots.now) queue) k result × IsPartitionPoint
-        (λ p. frame_of (slot_at (slots_in slots.now) p).used ≤ frame)
-        (λ p. frame < frame_of (slot_at (slots_in slots.now) p).used)
-        (places_in (nexts_in slots.now) queue) k }
+    requires rises { Rises (frame_at (slots_in slots.now)) (places_in (nexts_in slots.now) queue) }
+    requires ends { last_or (Some queue.last) (places_in (nexts_in slots.now) queue) ≡ Some queue.last }
+    ensures { (before after : List ℕ) × (places_in (nexts_in slots.now) queue ≡ before ++ after)
+        × (last_or None before ≡ result)
+        × ((p : ℕ) → times p before ≢ 0 → frame_at (slots_in slots.now) p ≤ frame)
+        × ((p : ℕ) → times p after ≢ 0 → frame < frame_at (slots_in slots.now) p) }
 {
-    let Some(mut near) = start(slots, queue, hint, frame) else {
+    let Some(mut near) = due_place(slots, queue, hint, frame) else {
         return None;
     };
     for _ in 1..queue.list.count {
@@ -68,15 +66,13 @@ fn earlier_place<T>(slots: &SlotList<T>, queue: Queue, hint: u32, frame: u64) ->
 fn place_before<T>(slots: &SlotList<T>, queue: Queue, hint: u32, frame: u64) -> Option<u32>
     requires hint { waits (slot_at (slots_in slots.now) hint) ≡ true
         → times hint (places_in (nexts_in slots.now) queue) ≢ 0 }
-    requires rises { IsNonDecreasingBy (λ p. frame_of (slot_at (slots_in slots.now) p).used)
-        (places_in (nexts_in slots.now) queue) }
-    requires ends { (i d : ℕ) → queue.list.count ≡ suc i
-        → slice_index_or (places_in (nexts_in slots.now) queue) i d ≡ queue.last }
+    requires rises { Rises (frame_at (slots_in slots.now)) (places_in (nexts_in slots.now) queue) }
+    requires ends { last_or (Some queue.last) (places_in (nexts_in slots.now) queue) ≡ Some queue.last }
     requires last { queue.list.count ≢ 0 → waits (slot_at (slots_in slots.now) queue.last) ≡ true }
-    ensures { (k : ℕ) × IsBefore (places_in (nexts_in slots.now) queue) k result × IsPartitionPoint
-        (λ p. frame_of (slot_at (slots_in slots.now) p).used ≤ frame)
-        (λ p. frame < frame_of (slot_at (slots_in slots.now) p).used)
-        (places_in (nexts_in slots.now) queue) k }
+    ensures { (before after : List ℕ) × (places_in (nexts_in slots.now) queue ≡ before ++ after)
+        × (last_or None before ≡ result)
+        × ((p : ℕ) → times p before ≢ 0 → frame_at (slots_in slots.now) p ≤ frame)
+        × ((p : ℕ) → times p after ≢ 0 → frame < frame_at (slots_in slots.now) p) }
 {
     if queue.list.count == 0 {
         return None;
@@ -87,31 +83,27 @@ fn place_before<T>(slots: &SlotList<T>, queue: Queue, hint: u32, frame: u64) -> 
     earlier_place(slots, queue, hint, frame)
 }
 
-/// Puts sets into the queue after a place, or first. They are linked as in a queue of their own.
+/// Puts sets that wait for the same frame into the queue after a place, or first. They are linked as in a queue of
+/// their own.
 #[inline]
 fn insert<T>(slots: &mut SlotList<T>, queue: &mut Queue, near: Option<u32>, sets: Queue)
-    requires near { (k : ℕ) × IsBefore (places_in (nexts_in slots.old) queue.old) k near }
+    requires place { (frame : ℕ) × (before after : List ℕ)
+        × (places_in (nexts_in slots.old) queue.old ≡ before ++ after) × (last_or None before ≡ near)
+        × ((p : ℕ) → times p before ≢ 0 → frame_at (slots_in slots.old) p ≤ frame)
+        × ((p : ℕ) → times p after ≢ 0 → frame < frame_at (slots_in slots.old) p)
+        × ((p : ℕ) → times p (places_in (nexts_in slots.old) sets) ≢ 0 → frame_at (slots_in slots.old) p ≡ frame) }
     requires few { queue.old.list.count + sets.list.count < 4294967296 }
-    requires some { sets.list.count ≢ 0 }
-    requires apart { (p : ℕ) → times p (places_in (nexts_in slots.old) queue.old)
-        + times p (places_in (nexts_in slots.old) sets) ≤ 1 }
-    requires within { (p : ℕ) → length (slots_in slots.old) ≤ p
-        → times p (places_in (nexts_in slots.old) queue.old) + times p (places_in (nexts_in slots.old) sets) ≡ 0 }
-    requires ends { (i d : ℕ) → queue.old.list.count ≡ suc i
-        → slice_index_or (places_in (nexts_in slots.old) queue.old) i d ≡ queue.old.last }
-    requires last { (i d : ℕ) → sets.list.count ≡ suc i
-        → slice_index_or (places_in (nexts_in slots.old) sets) i d ≡ sets.last }
-    ensures places { (k : ℕ) → IsBefore (places_in (nexts_in slots.old) queue.old) k near → places_in
-        (nexts_in slots.new) queue.new ≡ take k (places_in (nexts_in slots.old) queue.old) ++ (places_in
-        (nexts_in slots.old) sets ++ drop k (places_in (nexts_in slots.old) queue.old)) }
-    ensures count { queue.new.list.count ≡ queue.old.list.count + sets.list.count }
-    ensures end { IsBefore (places_in (nexts_in slots.old) queue.old) queue.old.list.count near
-        → queue.new.last ≡ sets.last }
-    ensures stays { (k : ℕ) → k < queue.old.list.count → IsBefore (places_in (nexts_in slots.old) queue.old) k near
-        → queue.new.last ≡ queue.old.last }
-    ensures nexts { (p : ℕ) → times p (places_in (nexts_in slots.old) queue.old) + times p (places_in
-        (nexts_in slots.old) sets) ≡ 0 → slice_index_or (nexts_in slots.new) p 0
-        ≡ slice_index_or (nexts_in slots.old) p 0 }
+    requires has { Lists waits (slots_in slots.old) (places_in (nexts_in slots.old) queue.old
+        ++ places_in (nexts_in slots.old) sets) }
+    requires there { IfSome near (λ place. place < length (slots_in slots.old)) }
+    requires last { sets.last < length (slots_in slots.old) }
+    requires rises { Rises (frame_at (slots_in slots.old)) (places_in (nexts_in slots.old) queue.old) }
+    requires ends { last_or (Some queue.old.last) (places_in (nexts_in slots.old) queue.old)
+        ≡ Some queue.old.last }
+    requires sets { last_or None (places_in (nexts_in slots.old) sets) ≡ Some sets.last }
+    ensures queue { IsQueue (slots_in slots.old) (places_in (nexts_in slots.new) queue.new) queue.new.last }
+    ensures nexts { (p : ℕ) → waits (slot_at (slots_in slots.old) p) ≡ false → slice_index_or
+        (nexts_in slots.new) p 0 ≡ slice_index_or (nexts_in slots.old) p 0 }
     ensures slots { slots_in slots.new ≡ slots_in slots.old }
     ensures space { space_in slots.new ≡ space_in slots.old }
 {
@@ -185,7 +177,10 @@ impl<T> SetTable<T> {
         let last = name.handle().place;
         let recent = (frame % FRAMES) as usize;
         let near = place_before(&self.slots, self.waiting, self.recent[recent], frame);
-        let Some(first) = self.slots.use_each(self.number, names, Use::Waits(frame)) else {
+        let Some(first) = self
+            .slots
+            .use_each(self.number, names, Use::Waits(frame), None, 0)
+        else {
             return false;
         };
         let count = names.len() as u32;

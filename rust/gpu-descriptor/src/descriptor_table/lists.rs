@@ -62,6 +62,15 @@ impl Lists {
         }
     }
 
+    /// Puts slots first in the list of a layout. The next of the last one is to be the one that was first.
+    #[inline]
+    pub(crate) fn prepend(&mut self, layout: usize, first: u32, many: u32)
+    {
+        let list = &mut self.kept[layout];
+        list.first = first;
+        list.count += many;
+    }
+
     /// Takes the first slot from the list of a group, with the one that comes next.
     #[inline]
     pub(crate) fn pop(&mut self, group: Group, next: u32)

@@ -3,16 +3,15 @@
 
 mod back;
 mod counts;
-mod handles;
 mod layouts;
 mod lists;
 mod sets;
 mod waiting;
 
 use self::waiting::FRAMES;
-use crate::descriptor_table::handle::{SetHandle, SetName};
+use crate::descriptor_table::handle::SetHandle;
 use crate::descriptor_table::lists::Lists;
-use crate::descriptor_table::slot::{Chain, Queue, Use};
+use crate::descriptor_table::slot::{Chain, Queue};
 use crate::descriptor_table::slot_list::{AGED, SlotList};
 use crate::descriptor_table::users::LayoutUsers;
 use crate::kit::alloc::{AllocError, Global};
@@ -76,20 +75,6 @@ impl<T> SetTable<T> {
             return None;
         }
         slot.set.as_ref()
-    }
-
-    /// Whether a name is that of a held set.
-    #[inline]
-    fn holds<N: SetName<T>>(&self, name: &N) -> bool
-    {
-        let Some(slot) = self.slots.last(self.number, name.handle()) else {
-            return false;
-        };
-        match slot.used() {
-            Use::Held => name.fits(slot.set.as_ref()),
-            Use::InFrame(_) | Use::Waits(_) | Use::Kept | Use::Going | Use::Taken | Use::Vacant =>
-                false,
-        }
     }
 
     /// Reserves memory for `additional` more sets: slots without a set, and new slots for the others.

@@ -51,21 +51,52 @@ impl<T> SetTable<T> {
     #[inline(always)]
     fn keep_named<N: SetName<T>>(&mut self, name: &N) -> bool
     {
-        self.holds(name) && self.keep_at(name.handle().place as usize)
+        self.slots.holds(self.number, name) && self.keep_at(name.handle().place as usize)
     }
 
-    /// Keeps the held sets of `names`, all or none. If a name has no held set, or one that may not be kept, it
-    /// keeps none and returns `false`.
+    /// The layout of the slot at a place, if `many` more sets of it can be kept.
+    #[inline(always)]
+    fn list_with_room(&self, place: u32, many: usize) -> Option<usize>
+    {
+        let layout = self.slots.get(place)?.list() as usize;
+        let list = self.lists.kept.get(layout)?;
+        let most = self.keep as usize;
+        (many <= most.saturating_sub(list.count as usize)).then_some(layout)
+    }
+
+    /// Keeps the held sets of `names`, all or none, in the list of the first one's layout. If a name has no held
+    /// set, or if they can't all be kept there, it keeps none and returns `false`.
     #[inline(always)]
     fn keep_each<N: SetName<T>>(&mut self, names: &[N]) -> bool
     {
-        for index in 0..names.len() {
-            if !self.keep_named(&names[index]) {
-                self.put_back(names, index);
-                return false;
-            }
+        let Some(name) = names.first() else {
+            return true;
+        };
+        // The loop takes a tenth more for a set that is freed alone.
+        if names.len() == 1 {
+            return self.keep_named(name);
         }
+        let Some(layout) = self.list_with_room(name.handle().place, names.len()) else {
+            return false;
+        };
+        let next = self.lists.first(Group::KeptOf(layout));
+        let Some(first) = self
+            .slots
+            .use_each(self.number, names, Use::Kept, Some(layout as u32), next)
+        else {
+            return false;
+        };
+        self.lists.prepend(layout, first, names.len() as u32);
         true
+    }
+
+    /// Takes the held sets of `names`, all or none. If a name has no held set, or is in the list twice,
+    /// it takes none and returns `false`.
+    pub fn take_each<N: SetName<T>>(&mut self, names: &[N]) -> bool
+    {
+        self.slots
+            .use_each(self.number, names, Use::Taken, None, 0)
+            .is_some()
     }
 
     /// Keeps the sets of `names`, or lets them go. A call has taken them.

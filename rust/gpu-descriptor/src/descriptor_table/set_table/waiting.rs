@@ -11,7 +11,7 @@ pub(super) const FRAMES: u64 = 8;
 
 /// A place in the queue of a set that waits for this frame or an earlier one: `hint`, or the first one. `None`
 /// if there is none.
-fn start<T>(slots: &SlotList<T>, queue: Queue, hint: u32, frame: u64) -> Option<u32>
+fn due_place<T>(slots: &SlotList<T>, queue: Queue, hint: u32, frame: u64) -> Option<u32>
 {
     if slots.is_due(hint, frame) {
         return Some(hint);
@@ -27,7 +27,7 @@ fn start<T>(slots: &SlotList<T>, queue: Queue, hint: u32, frame: u64) -> Option<
 #[inline(never)]
 fn earlier_place<T>(slots: &SlotList<T>, queue: Queue, hint: u32, frame: u64) -> Option<u32>
 {
-    let Some(mut near) = start(slots, queue, hint, frame) else {
+    let Some(mut near) = due_place(slots, queue, hint, frame) else {
         return None;
     };
     for _ in 1..queue.list.count {
@@ -56,7 +56,8 @@ fn place_before<T>(slots: &SlotList<T>, queue: Queue, hint: u32, frame: u64) -> 
     earlier_place(slots, queue, hint, frame)
 }
 
-/// Puts sets into the queue after a place, or first. They are linked as in a queue of their own.
+/// Puts sets that wait for the same frame into the queue after a place, or first. They are linked as in a queue of
+/// their own.
 #[inline]
 fn insert<T>(slots: &mut SlotList<T>, queue: &mut Queue, near: Option<u32>, sets: Queue)
 {
@@ -109,7 +110,10 @@ impl<T> SetTable<T> {
         let last = name.handle().place;
         let recent = (frame % FRAMES) as usize;
         let near = place_before(&self.slots, self.waiting, self.recent[recent], frame);
-        let Some(first) = self.slots.use_each(self.number, names, Use::Waits(frame)) else {
+        let Some(first) = self
+            .slots
+            .use_each(self.number, names, Use::Waits(frame), None, 0)
+        else {
             return false;
         };
         let count = names.len() as u32;

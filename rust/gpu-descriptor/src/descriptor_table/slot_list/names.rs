@@ -24,13 +24,40 @@ impl<T> Entry<T> {
             | State::Vacant => false,
         }
     }
+
+    /// Whether the set may be kept in the list of this layout, if there is one.
+    #[inline(always)]
+    fn may_join(&self, layout: Option<u32>) -> bool
+    {
+        match layout {
+            Some(layout) => self.list == layout && self.generation < u32::MAX,
+            None => true,
+        }
+    }
 }
 
 impl<T> SlotList<T> {
-    /// Puts the held set of a name to another use, if there is one, and makes `next` the slot that follows in
-    /// its list.
+    /// Whether a name is that of a held set.
     #[inline(always)]
-    fn use_named<N: SetName<T>>(&mut self, number: u64, name: &N, used: Use, next: u32) -> bool
+    pub(crate) fn holds<N: SetName<T>>(&self, number: u64, name: &N) -> bool
+    {
+        match self.last(number, name.handle()) {
+            Some(slot) => slot.is_held_by(name),
+            None => false,
+        }
+    }
+
+    /// Puts the held set of a name to another use, if there is one and it may join the list of `layout`, and makes
+    /// `next` the slot that follows in its list.
+    #[inline(always)]
+    fn use_named<N: SetName<T>>(
+        &mut self,
+        number: u64,
+        name: &N,
+        used: Use,
+        layout: Option<u32>,
+        next: u32,
+    ) -> bool
     {
         let handle = name.handle();
         if handle.manager != number {
@@ -39,7 +66,7 @@ impl<T> SlotList<T> {
         let Some(entry) = self.entries.get_mut(handle.place as usize) else {
             return false;
         };
-        if !entry.is_held_by(name) {
+        if !entry.is_held_by(name) || !entry.may_join(layout) {
             return false;
         }
         entry.next = next;
@@ -48,20 +75,23 @@ impl<T> SlotList<T> {
     }
 
     /// Puts the held sets of `names` to another use, all or none. Each is linked before that of the name before
-    /// it. Returns the place of the last one, 0 if there are no names. If a name has no held set, or is in the
-    /// list twice, it returns `None`, and all are held.
+    /// it, and the first one before `next`. Returns the place of the last one, or `next` if there are no names.
+    /// If a name has no held set, or is in the list twice, or if a set may not join the list of `layout`, it
+    /// returns `None`, and all are held.
     #[inline(always)]
     pub(crate) fn use_each<N: SetName<T>>(
         &mut self,
         number: u64,
         names: &[N],
         used: Use,
+        layout: Option<u32>,
+        next: u32,
     ) -> Option<u32>
     {
-        let mut first = 0;
+        let mut first = next;
         for index in 0..names.len() {
             let name = &names[index];
-            if !self.use_named(number, name, used, first) {
+            if !self.use_named(number, name, used, layout, first) {
                 self.hold_each(names, index);
                 return None;
             }

@@ -1,4 +1,4 @@
-use Rattle.descriptor_table.proofs.Common.{◌+◌, refl, sym, subst, AreCounted, AreSound, layouts_of, removed_of, slots_of, chains_in, users_in}
+use Rattle.descriptor_table.proofs.Common.{◌+◌, sym, subst, AreCounted, AreSound, layouts_of, removed_of, slots_of, chains_in, users_in}
 use Rattle.descriptor_table.proofs.Entries.{in_place}
 use Rattle.descriptor_table.proofs.Numbers.{added_counted}
 use Rattle.descriptor_table.proofs.Sound.{layout_sound}
@@ -14,6 +14,3 @@ pub invariant_of-self-clause-counted : goal.invariant_of-self-clause-counted
 invariant_of-self-clause-counted g c =
     let s = c.args.self.now in
     in_place (λ layouts removed. AreCounted (slots_of s) layouts removed (users_in c.add-2.new.self)) _ _ _ _ c.add.ensures.layouts c.add.ensures.removed (subst (AreCounted (slots_of s) (layouts_of s + 1) (removed_of s)) (sym c.add-2.ensures) (added_counted s))
-
-pub returns : goal.returns
-returns g c = let s = c.args.self.now in record { slots = refl; settings = λ i. record { number = s.number; layouts = c.add.ensures.layouts i; removed = c.add.ensures.removed i; keep = s.keep } }

@@ -1,38 +1,78 @@
-use Rattle.descriptor_table.proofs.Common.{◌<◌, ℕ, inl, take, refl, sym, ap, subst, ◌∙◌, true≢false, Slot, slot_at, Becomes, CanBeHeld, Settings, TurnEach, is_held_use, removed_of, stays, place_at, slots_of, used_for, Held, Kept}
-use Rattle.descriptor_table.proofs.Holding.{can_turn, turned_back, turned_each}
-use Rattle.descriptor_table.proofs.Named.{is_named, names_all, names_end, names_more, names_none}
-use Rattle.descriptor_table.proofs.Turning.{kept_only, stays_more, stays_same}
+use Rattle.descriptor_table.proofs.Common.{◌≡◌, ◌∙◌, ◌+◌, ◌<◌, length, refl, sym, subst, arith, chain_at, chains_in, layouts_of, removed_of, slots_in, slots_of, users_in, AreCounted, AreSound, KeptOf, Some, SetTable, Kept, Going, IsBack, ap, inl, length-set, place_at, slot_at, used_for, ℕ, last_or, None, walk, nexts_in, get_or}
+use Rattle.descriptor_table.proofs.Chains.{and_true, unheld}
+use Rattle.descriptor_table.proofs.Counts.{chain_counts}
+use Rattle.descriptor_table.proofs.Entries.{in_place}
+use Rattle.descriptor_table.proofs.Holding.{held_is}
+use Rattle.descriptor_table.proofs.Keeping.{few_kept, kept_sound}
+use Rattle.descriptor_table.proofs.Listed.{other_slots, slot_set}
+use Rattle.descriptor_table.proofs.Names.{first_read, handles_long, names_last, place_read, some_names}
+use Rattle.descriptor_table.proofs.Relisted.{group_within}
+use Rattle.descriptor_table.proofs.Reusing.{Reused, reused_counted, reused_each, reused_none, took_sound}
+use Rattle.descriptor_table.proofs.set_table.SetTable.keep_each.Goals.{In-Some-use_each}
 use Rattle.descriptor_table.proofs.set_table.SetTable.keep_each.Goals as goal
 
-pub loop-index-init : goal.loop-index-init
-loop-index-init g c = record { turned = names_none _ _ _ _ _ _; stays = stays_same _ }
+pub invariant_of-self-clause-sound : goal.invariant_of-self-clause-sound
+invariant_of-self-clause-sound g c = let s = c.args.self.now in took_sound s.slots c.use_each.new.self (chains_in s.lists) (layouts_of s) s.waiting s.keep s.sound _ (reused_none _ _ (c.in_default-use_each.ensures.none refl)) c.use_each.ensures.nexts
 
-pub loop-index-preserved : goal.loop-index-preserved
-loop-index-preserved g c =
-    let inv = c.loop-index.invariant in
-    let kept = c.if-not-keep_named.ensures in
+pub invariant_of-self-clause-counted : goal.invariant_of-self-clause-counted
+invariant_of-self-clause-counted g c = let s = c.args.self.now in subst (λ l. AreCounted l (layouts_of s) (removed_of s) (users_in s.users)) (sym (c.in_default-use_each.ensures.none refl)) s.counted
+
+module _ (g : _) (c : In-Some-use_each g) where
+  abbrev s : SetTable g.row.T.Denot
+  s = c.args.self.now
+
+  abbrev layout : ℕ
+  layout = c.in-Some-list_with_room.layout
+
+  -- the sets of the names are kept
+  reused : Reused (Some layout) Kept (walk (length c.args.names.now) (nexts_in c.use_each.new.self) c.in-Some-use_each.first) (slots_of s) (slots_in c.use_each.new.self)
+  reused = (let e = c.in-Some-use_each.ensures in reused_each s.number (g.N.SetName.handles_of c.args.names.now) (Some layout) Kept _ _ _ (e.once refl).0 (e.may refl) (e.used refl) e.linked)
+
+  last : last_or None (walk (length c.args.names.now) (nexts_in c.use_each.new.self) c.in-Some-use_each.first) ≡ Some c.handle.result.place
+  last = ap (last_or None) c.in-Some-use_each.ensures.linked ∙ names_last g.N.SetName g.met.N.SetName.each c.args.names.now c.in-Some.name.now c.handle.result c.in-Some.ensures.value c.handle.ensures
+
+  ends : get_or (nexts_in c.use_each.new.self) c.handle.result.place 0 ≡ (chain_at (chains_in s.lists) (layout + 2)).first
+  ends =
+      let some : 0 < length c.args.names.now = omega (arith, some_names c.args.names.now c.in-Some.name.now c.in-Some.ensures.value) in
+      let at = place_read g.N.SetName g.met.N.SetName.each c.args.names.now 0 c.in-Some.name.now c.handle.result some (first_read c.args.names.now c.in-Some.name.now c.in-Some.name.now c.in-Some.ensures.value) c.handle.ensures in
+      subst (λ p. get_or (nexts_in c.use_each.new.self) p 0 ≡ (chain_at (chains_in s.lists) (layout + 2)).first) at (c.in-Some-use_each.ensures.ends refl some ∙ c.first-next.ensures)
+
+  few : (chain_at (chains_in s.lists) (layout + 2)).count + length c.args.names.now < 4294967295
+  few = omega (arith, few_kept layout c.in-Some-use_each.first (length c.args.names.now) c.handle.result.place s.slots c.use_each.new.self (chains_in s.lists) (layouts_of s) s.waiting s.keep s.sound reused c.use_each.ensures.nexts last ends, reused.long, s.sound.size)
+
+pub overflow_cast-names : goal.overflow_cast-names
+overflow_cast-names g c = omega (arith, few g (goal.at.overflow_cast-names g c).In-Some-use_each)
+
+pub prepend-requires-clause-few : goal.prepend-requires-clause-few
+prepend-requires-clause-few g c = few g (goal.at.prepend-requires-clause-few g c).In-Some-use_each
+
+pub invariant_of-self-2 : goal.invariant_of-self-2
+invariant_of-self-2 g c =
+    let d = (goal.at.invariant_of-self-2 g c).In-Some-use_each in
     let s = c.args.self.now in
-    let now = slots_of c.loop-index.self in
-    let x = c.index-names-index.result in
-    let p = (g.N.SetName.handle_of x).place in
-    let has = sym (ap (λ (s : Settings). is_named g.N.SetName g.met.N.SetName.each s.number now x) inv.stays.settings) ∙ kept.held refl in
-    let may = sym (ap (λ (s : Settings). stays s.removed (slot_at now p)) inv.stays.settings) ∙ kept.may refl in
+    let n = c.in-Some-list_with_room.layout in
+    let to = c.prepend.ensures in
+    let kept = kept_sound n c.in-Some-use_each.first (length c.args.names.now) c.handle.result.place s.slots c.use_each.new.self (chains_in s.lists) (layouts_of s) s.waiting s.keep s.sound (reused g d) c.use_each.ensures.nexts (last g d) (ends g d) in
     record {
-      turned =
-          names_more _ _ _ _ _ _ _ _ inv.turned x c.loop-index-test.true c.index-names-index.is (g.N.SetName.handle_of x) refl
-          (λ l o n is held. true≢false (ap is_held_use (sym held ∙ ap (λ (s : Slot g.row.T.Denot). s.used) is.0))) has
-          (used_for Kept (slot_at now p)) (slots_of c.keep_named.new.self) (kept.keeps refl) (λ o n is. is) (refl, may);
-      stays = stays_more s c.loop-index.self c.keep_named.new.self inv.stays kept.stays;
+      sound = in_place (λ chains layouts. AreSound c.use_each.new.self chains layouts s.waiting s.keep) _ _ _ _ to.chains to.layouts (kept (omega (arith, c.in-Some-list_with_room.ensures.1, chain_counts s (n + 2))) (group_within s.lists (KeptOf n) c.in-Some-list_with_room.ensures.0));
+      counted = in_place (λ layouts removed. AreCounted (slots_in c.use_each.new.self) layouts removed (users_in s.users)) _ _ _ _ to.layouts to.removed
+          (reused_counted (Some n) Kept (unheld Kept refl) s.slots c.use_each.new.self (chains_in s.lists) (layouts_of s) s.waiting s.keep s.sound _ (reused g d) c.use_each.ensures.nexts (removed_of s) (users_in s.users) s.counted);
     }
 
-pub put_back-requires-clause-free : goal.put_back-requires-clause-free
-put_back-requires-clause-free g c = subst (λ l. (i : ℕ) → i < c.loop-index.index → CanBeHeld (slot_at l (place_at (g.N.SetName.handles_of c.args.names.now) i))) (sym (c.if-not-keep_named.ensures.none refl)) (can_turn _ _ _ _ _ _ (kept_only (removed_of c.args.self.now) (slots_of c.loop-index.self)) c.loop-index.invariant.turned.some)
-
-pub returns-then-not-keep_named-clause-none : goal.returns-then-not-keep_named-clause-none
-returns-then-not-keep_named-clause-none g c = λ f. turned_back _ _ _ _ _ _ (kept_only (removed_of c.args.self.now) (slots_of c.loop-index.self)) c.loop-index.invariant.turned.some (slots_of c.put_back.new.self) (subst (λ l. TurnEach (take c.loop-index.index (g.N.SetName.handles_of c.args.names.now)) (Becomes (used_for Held)) l (slots_of c.put_back.new.self)) (c.if-not-keep_named.ensures.none refl) c.put_back.ensures.slots)
-
-pub returns-clause-once : goal.returns-clause-once
-returns-clause-once g c = λ t. names_all _ _ _ _ _ _ _ _ c.loop-index.invariant.turned c.loop-index-test.false
-
-pub returns-clause-back : goal.returns-clause-back
-returns-clause-back g c = λ t. let kept = turned_each _ _ _ _ _ _ (names_end _ _ _ _ _ _ _ _ c.loop-index.invariant.turned c.loop-index-test.false) c.loop-index.invariant.turned.some in record { long = kept.long; named = λ i lt. inl (kept.named i lt); rest = kept.rest }
+-- one set
+pub returns-then-names-eq1-clause-back : goal.returns-then-names-eq1-clause-back
+returns-then-names-eq1-clause-back g c = λ t.
+    let name = c.in-Some.name.now in
+    let handles = g.N.SetName.handles_of c.args.names.now in
+    let old = slots_of c.args.self.now in
+    let p = (g.N.SetName.handle_of name).place in
+    let kept = c.keep_named.ensures in
+    let one = c.if-names-eq1.true in
+    let at : place_at handles 0 ≡ p = place_read g.N.SetName g.met.N.SetName.each c.args.names.now 0 name (g.N.SetName.handle_of name) (omega arith) (first_read c.args.names.now name name c.in-Some.ensures.value) refl in
+    let long = handles_long g.N.SetName g.met.N.SetName.each c.args.names.now in
+    let here = slot_set old p (used_for Kept (slot_at old p)) (held_is c.args.self.now.number old (g.N.SetName.handle_of name) (and_true _ _ (kept.held t)).1).within in
+    record {
+      long = ap length (kept.keeps t) ∙ length-set old p (used_for Kept (slot_at old p));
+      named = λ i lt. (let first : i ≡ 0 = omega arith in subst (λ q. IsBack (used_for Going) (removed_of c.args.self.now) c.args.self.now.keep (slots_of c.keep_named.new.self) (slot_at old q) (slot_at (slots_of c.keep_named.new.self) q)) (sym (ap (place_at handles) first ∙ at)) (inl (ap (λ l. slot_at l p) (kept.keeps t) ∙ here, kept.may t)));
+      rest = λ q none. ap (λ l. slot_at l q) (kept.keeps t) ∙ other_slots old p _ q (λ e. none 0 (omega arith) (at ∙ sym e));
+    }

@@ -1,5 +1,5 @@
 use Rattle.descriptor_table.proofs.Common.{◌≡◌, ◌-◌, ◌<◌, true, length, refl, set, subst, sym, rules, is_of, list_of, AreSound, count, slot_at, slots_in, layouts_of, slots_of, chains_in, Chain}
-use Rattle.descriptor_table.proofs.Counts.{chain_short, group_has, some_of}
+use Rattle.descriptor_table.proofs.Counts.{chain_short, some_of}
 use Rattle.descriptor_table.proofs.Entries.{in_place}
 use Rattle.descriptor_table.proofs.Heads.{first, taken_sound}
 use Rattle.descriptor_table.proofs.Numbers.{list_counted}
@@ -19,9 +19,6 @@ at g c = first c.args.self.now (list_of c.args.group) (some g c) c.get-list.resu
 
 pub set_use-requires : goal.set_use-requires
 set_use-requires g c = (at g (goal.at.set_use-requires g c).After-at).0
-
-pub pop-requires-clause-there : goal.pop-requires-clause-there
-pop-requires-clause-there g c = group_has c.args.self.now c.args.group (some g (goal.at.pop-requires-clause-there g c).After-at)
 
 pub pop-requires-clause-few : goal.pop-requires-clause-few
 pop-requires-clause-few g c = chain_short c.args.self.now (list_of c.args.group)

@@ -1,12 +1,9 @@
 use Rattle.descriptor_table.proofs.Common.{true, ◌+◌, ◌∙◌, refl, subst, sym, arith, length-map, AreCounted, AreSound, is_kept_of, shown, layouts_of, removed_of, removed_as, slots_of, chains_in, users_in}
 use Rattle.descriptor_table.proofs.Counts.{chain_counts, none_count}
 use Rattle.descriptor_table.proofs.Entries.{in_place}
-use Rattle.descriptor_table.proofs.Numbers.{removed_counted, there_user}
+use Rattle.descriptor_table.proofs.Numbers.{removed_counted}
 use Rattle.descriptor_table.proofs.Sound.{emptied_sound}
 use Rattle.descriptor_table.proofs.set_table.SetTable.remove_layout.Goals as goal
-
-pub leave-requires-clause-some : goal.leave-requires-clause-some
-leave-requires-clause-some g c = there_user c.args.self.now c.args.layout c.requires.layout
 
 pub invariant_of-self-clause-sound : goal.invariant_of-self-clause-sound
 invariant_of-self-clause-sound g c =
@@ -20,6 +17,3 @@ pub invariant_of-self-clause-counted : goal.invariant_of-self-clause-counted
 invariant_of-self-clause-counted g c =
     let s = c.args.self.now in
     in_place (λ layouts removed. AreCounted (slots_of s) layouts removed (users_in c.leave.new.self)) _ _ _ _ c.remove.ensures.layouts c.remove.ensures.removed (subst (AreCounted (slots_of s) (layouts_of s) (removed_as true c.args.layout (removed_of s))) (sym c.leave.ensures) (removed_counted s c.args.layout c.requires.layout))
-
-pub returns : goal.returns
-returns g c = let s = c.args.self.now in record { slots = refl; settings = λ i. record { number = s.number; layouts = c.remove.ensures.layouts i; removed = c.remove.ensures.removed i; keep = s.keep } }

@@ -1,13 +1,8 @@
-use Rattle.descriptor_table.proofs.Common.{false, refl, subst, sym, AreCounted, AreSound, is_set_of, layouts_of, removed_of, removed_as, slots_of, users_in}
+use Rattle.descriptor_table.proofs.Common.{false, refl, subst, sym, AreCounted, is_set_of, layouts_of, removed_of, removed_as, slots_of, users_in}
 use Rattle.descriptor_table.proofs.Counts.{count_none}
 use Rattle.descriptor_table.proofs.Entries.{in_place}
 use Rattle.descriptor_table.proofs.Numbers.{free_is, renewed_counted}
 use Rattle.descriptor_table.proofs.set_table.SetTable.renew_layout.Goals as goal
-
-pub invariant_of-self-2-clause-sound : goal.invariant_of-self-2-clause-sound
-invariant_of-self-2-clause-sound g c =
-    let s = c.args.self.now in
-    in_place (λ chains layouts. AreSound s.slots chains layouts s.waiting s.keep) _ _ _ _ c.renew.ensures.chains c.renew.ensures.layouts s.sound
 
 pub invariant_of-self-2-clause-counted : goal.invariant_of-self-2-clause-counted
 invariant_of-self-2-clause-counted g c =

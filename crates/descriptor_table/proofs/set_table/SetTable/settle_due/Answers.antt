@@ -1,5 +1,5 @@
 use Rattle.descriptor_table.proofs.Common.{common_steps, ◌≡◌, arith, is_due, slot_at, IsBack, removed_of, next_use, slots_of, used_for, Going, Taken}
-use Rattle.descriptor_table.proofs.Turning.{due_not_listed, one_fewer, same_next, settled_grows, settled_here, settled_not_due, settled_set, stays_more, turn_step}
+use Rattle.descriptor_table.proofs.Turning.{due_not_listed, one_less, same_next, settled_grows, settled_here, settled_not_due, settled_set, stays_more, turn_step}
 use Rattle.descriptor_table.proofs.Listed.{with_use}
 use Rattle.descriptor_table.proofs.set_table.SetTable.settle_due.Goals.{After-settle}
 use Rattle.descriptor_table.proofs.set_table.SetTable.settle_due.Goals as goal
@@ -38,13 +38,8 @@ loop-place-smaller g c =
     let max = c.args.self.now.keep in
     let now = slots_of c.loop-place.self in
     let mid = slots_of c.pick_due.new.self in
-    let new = slots_of c.settle.new.self in
     let p = c.in-Some.place in
     let is = settled g (goal.at.loop-place-smaller g c).After-settle in
     let out = due_not_listed c.args.frame (slot_at now p) picks.was in
-    one_fewer (is_due c.args.frame) now new p (used_for (next_use removed max mid p) (slot_at now p)) picks.within
-    picks.was
-    (settled_not_due removed c.args.frame max new (slot_at now p)
-    (used_for (next_use removed max mid p) (slot_at now p))
-    (settled_here removed max now mid new p picks.within out Taken tt picks.slots is))
-    (settled_set removed max now mid new p picks.within out Taken tt picks.slots is)
+    let gone = settled_not_due removed c.args.frame max (slots_of c.settle.new.self) (slot_at now p) (used_for (next_use removed max mid p) (slot_at now p)) (settled_here removed max now mid _ p picks.within out Taken tt picks.slots is) in
+    omega (arith, one_less (is_due c.args.frame) now _ p _ picks.within picks.was gone (settled_set removed max now mid _ p picks.within out Taken tt picks.slots is))

@@ -1,8 +1,7 @@
 use Rattle.descriptor_table.proofs.Common.{◌≡◌, ◌∙◌, ℕ, false, is_some, sym, ap, in_list, is_in, slot_at, HasTaken, removed_of, next_use, slots_of, used_for, Taken}
-use Rattle.descriptor_table.proofs.Holding.{first_none}
 use Rattle.descriptor_table.proofs.Listed.{with_use}
 use Rattle.descriptor_table.proofs.Named.{each_turned, next_taken, next_turned}
-use Rattle.descriptor_table.proofs.Turning.{same_next, same_use, settled_grows, settled_here, settled_set, stays_more, stays_same}
+use Rattle.descriptor_table.proofs.Turning.{same_next, same_use, settled_grows, settled_here, settled_set, stays_more}
 use Rattle.descriptor_table.proofs.set_table.SetTable.settle_each.Goals.{After-handle}
 use Rattle.descriptor_table.proofs.set_table.SetTable.settle_each.Goals as goal
 
@@ -12,9 +11,6 @@ has g c = next_taken g.N.SetName g.met.N.SetName.each c.args.names.now _ _ _ _ c
 
 pub settle-requires : goal.settle-requires
 settle-requires g c = has g (goal.at.settle-requires g c).After-handle
-
-pub loop-index-init : goal.loop-index-init
-loop-index-init g c = record { first = first_none _ _ _; stays = stays_same _ }
 
 pub loop-index-preserved : goal.loop-index-preserved
 loop-index-preserved g c =

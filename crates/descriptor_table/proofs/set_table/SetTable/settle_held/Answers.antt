@@ -1,11 +1,8 @@
 use Rattle.descriptor_table.proofs.Common.{refl, subst, Becomes, IsBack, Settings, TurnEach, slots_of, used_for, Going, Taken}
-use Rattle.descriptor_table.proofs.Holding.{has_taken, taken_settled}
+use Rattle.descriptor_table.proofs.Holding.{taken_settled}
 use Rattle.descriptor_table.proofs.Turning.{stays_more}
 use Rattle.descriptor_table.proofs.set_table.SetTable.settle_held.Goals.{After-take_each}
 use Rattle.descriptor_table.proofs.set_table.SetTable.settle_held.Goals as goal
-
-pub settle_each-requires-clause-taken : goal.settle_each-requires-clause-taken
-settle_each-requires-clause-taken g c = has_taken _ _ _ _ (c.if-not-take_each.ensures.once.0 refl).0 (c.if-not-take_each.ensures.took refl)
 
 pub returns-clause-back : goal.returns-clause-back
 returns-clause-back g c =

@@ -1,4 +1,4 @@
-use Rattle.descriptor_table.proofs.Common.{refl, subst, sym, ◌∙◌, ◌-◌, chains_in, layouts_of, slot_at, slots_in, slots_of, used_for, AreSound, Chain, Taken}
+use Rattle.descriptor_table.proofs.Common.{rules, refl, chains_in, layouts_of, slot_at, slots_in, slots_of, used_for, Taken}
 use Rattle.descriptor_table.proofs.Chains.{unheld}
 use Rattle.descriptor_table.proofs.Numbers.{slot_counted}
 use Rattle.descriptor_table.proofs.Sound.{leave_sound, listed}
@@ -14,19 +14,13 @@ set_use-requires g c = (head_waits c.args.self.now c.requires.some).0
 pub invariant_of-self-clause-sound : goal.invariant_of-self-clause-sound
 invariant_of-self-clause-sound g c =
     let s = c.args.self.now in
-    let p = s.waiting.list.first in
-    let new = used_for Taken (slot_at (slots_of s) p) in
-    subst (λ (w : Chain). AreSound c.set_use.new.self (chains_in s.lists) (layouts_of s) (record s.waiting { list = w }) s.keep) (sym (c.pop.ensures ∙ λ i. record { first = c.at.ensures.next i; count = s.waiting.list.count - 1 }))
-    (leave_sound s.slots c.set_use.new.self (chains_in s.lists) (layouts_of s) s.waiting s.keep s.sound p new c.set_use.ensures.writes.slots c.requires.some refl c.set_use.ensures.nexts (λ k. refl) refl
-    (listed s.slots s.slots (chains_in s.lists) (layouts_of s) s.waiting s.keep s.sound p new (head_waits s c.requires.some).0 refl (unheld Taken refl)))
+    let new = used_for Taken (slot_at (slots_of s) s.waiting.list.first) in
+    let there = listed s.slots s.slots (chains_in s.lists) (layouts_of s) s.waiting s.keep s.sound s.waiting.list.first new (head_waits s c.requires.some).0 refl (unheld Taken refl) in
+    let left = leave_sound s.slots c.set_use.new.self (chains_in s.lists) (layouts_of s) s.waiting s.keep s.sound s.waiting.list.first new c.set_use.ensures.writes.slots c.requires.some refl c.set_use.ensures.nexts (λ k. refl) refl there in
+    search (rules, left)
 
 pub invariant_of-self-clause-counted : goal.invariant_of-self-clause-counted
 invariant_of-self-clause-counted g c = let s = c.args.self.now in slot_counted s (slots_in c.set_use.new.self) s.waiting.list.first _ c.set_use.ensures.writes.slots (head_waits s c.requires.some).0 refl refl
 
 pub returns-clause-takes : goal.returns-clause-takes
-returns-clause-takes g c =
-    let head = head_waits c.args.self.now c.requires.some in
-    record {
-      slots = record { was = head.1; within = head.0; slots = c.set_use.ensures.writes.slots };
-      stays = record { settings = refl; space = c.set_use.ensures.writes.space };
-    }
+returns-clause-takes g c = search (rules, head_waits c.args.self.now c.requires.some)

@@ -6,9 +6,6 @@ use Rattle.descriptor_table.proofs.set_table.SetTable.trim_layout.Goals as goal
 pub unreachable-requires : goal.unreachable-requires
 unreachable-requires g c = omega (arith, c.loop-self.self, c.count.ensures, none_count (is_kept_of c.args.layout) (slots_of c.loop-self.self) c.in-None.ensures.slots.none, c.loop-self-test.true)
 
-pub returns-clause-few : goal.returns-clause-few
-returns-clause-few g c = omega (arith, c.count.ensures, c.loop-self-test.false)
-
 pub loop-self-smaller : goal.loop-self-smaller
 loop-self-smaller g c = omega (arith, go_less (is_kept_of c.args.layout) (slots_of c.loop-self.self) (slots_of c.pick.new.self) (slots_of c.let_go.new.self) c.in-Some.place c.in-Some.ensures.slots c.let_go.ensures.slots (λ s. going_out (c.args.layout + 2) s (omega arith)))
 
