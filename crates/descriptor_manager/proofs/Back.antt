@@ -1,9 +1,9 @@
 -- Sets that go back: those that are freed are kept, or leave their slots; then kept sets that all go, for `Store::cleanup`,
 -- `set_max_kept` and `free_all`; then all sets that leave, for `Store::free_all` and `SetManager::shutdown`.
-use Rattle.descriptor_manager.proofs.Common.{common_steps, ◌≡◌, ℕ, ◌+◌, ◌≤◌, ◌&&◌, nat_lt, ne_eqb, Bool, true, false, List, is_some, inl, inr, ap, arith, rules, if◌then◌else◌, refl, sym, ◌∙◌, ◌⊎◌, ◌||◌, not, Option, None, true≢false, sets_in, Slot, count, goes, is_in, is_kept_of, slot_at}
-use Rattle.descriptor_manager.proofs.Common.{in_list, waits, waits_for, IsBack, Becomes, MayBecome, Turns, is_kept, used_for, vacated, aged, holds, is_held_use, Kept, Going, Use, lists_apart, group_out, same_sets, kept_full, count_same, going_out, count_none, AreCleaned}
-use Rattle.descriptor_manager.proofs.Following.{ArePlaced, follows_vacated, none_goes}
-use Rattle.descriptor_manager.proofs.Arriving.{Arrives, same_arrives}
+use Rattle.descriptor_manager.proofs.Common.{common_steps, ◌≡◌, ℕ, ◌+◌, ◌≤◌, ◌&&◌, ◌||◌, nat_lt, ne_eqb, Bool, true, false, List, is_some, ap, arith, rules, refl, ◌∙◌, ◌⊎◌, None, sets_in, Slot, count, goes, is_in, is_kept_of, slot_at, waits, IsBack, Becomes}
+use Rattle.descriptor_manager.proofs.Common.{MayBecome, Turns, is_kept, used_for, vacated, aged, holds, Kept, Going, Use, lists_apart, group_out, same_sets, kept_full, count_same, going_out, count_none, AreCleaned, ◌<◌, get_or, length, AreHeldOnce, TurnEach, place_at, SetHandle, held_is, named_or, suc, [], ◌∷◌}
+use Rattle.descriptor_manager.proofs.Common.{and-false, joined, none_count, is_placed}
+use Rattle.descriptor_manager.proofs.Arriving.{ArePlaced, follows_vacated, none_goes, Arrives, same_arrives}
 
 module _ {T : Type 0} where
   -- the same sets are there, if each slot that turns has its set still
@@ -18,10 +18,10 @@ module _ {T : Type 0} where
   pub kept_stays : (s : Slot T) → goes (used_for Kept s) ≡ false
   kept_stays s = ap (λ b. b && (nat_lt s.generation 4294967295 && is_some s.set)) (ne_eqb 1 (s.layout + 2) (λ e. omega arith))
 
-  module _ (test : Slot T → Bool) (removed : ℕ → Bool) (max : ℕ) (old mid new : List (Slot T)) (full : (s : Slot T) → test s ≡ true → is_some s.set ≡ true) where
-    -- sets settled, and those that went were returned
-    pub came_back : ((p : ℕ) → goes (slot_at old p) ≡ false) → Turns test (IsBack (used_for Going) removed max) old mid → Turns goes (Becomes vacated) mid new → Turns test (IsBack vacated removed max) old new
-    came_back none settles gives = search (rules, given_kept, kept_stays)
+  -- sets settled, and those that went were returned
+  pub came_back :
+      (test : Slot T → Bool) (removed : ℕ → Bool) (max : ℕ) (old mid new : List (Slot T)) → ((s : Slot T) → test s ≡ true → is_some s.set ≡ true) → ((p : ℕ) → goes (slot_at old p) ≡ false) → Turns test (IsBack (used_for Going) removed max) old mid → Turns goes (Becomes vacated) mid new → Turns test (IsBack vacated removed max) old new
+  came_back test removed max old mid new full none settles gives = search (rules, given_kept, kept_stays)
 
   -- kept sets that went were returned
   pub left : (old mid new : List (Slot T)) → ((p : ℕ) → goes (slot_at old p) ≡ false) → Turns is_kept (MayBecome (used_for Going)) old mid → Turns goes (Becomes vacated) mid new → Turns is_kept (MayBecome vacated) old new
@@ -32,89 +32,87 @@ module _ {T : Type 0} where
   pub kept_out : (layout : ℕ) (old new : List (Slot T)) → Turns (is_kept_of layout) (Becomes vacated) old new → (p : ℕ) → is_kept_of layout (slot_at new p) ≡ false
   kept_out layout old new turns p = search (rules, group_out)
 
-  -- a kept set goes if none is kept later, and was returned
-  kept_returned : (a b new : List (Slot T)) → Turns is_kept (MayBecome (used_for Going)) a b → ((layout : ℕ) → count (is_in (layout + 2)) b ≤ 0) → Turns goes (Becomes vacated) b new → (p : ℕ) → is_kept (slot_at a p) ≡ true → slot_at new p ≡ vacated (slot_at a p)
-  kept_returned a b new trims few gives p kept = elim (trims.here p kept) [
-    | inl same ↦ absurd (let k = (slot_at a p).layout in let out = count_none (is_in (k + 2)) b refl (let f = few k in omega arith) p in true≢false (sym kept ∙ ap (is_in (k + 2)) (sym same) ∙ out))
-    | inr leaves ↦ gives.here p (ap goes leaves ∙ kept_full (slot_at a p) kept) ∙ ap vacated leaves
-  ]
+  -- all kept sets go, if none is kept later
+  all_trimmed : (a b : List (Slot T)) → Turns is_kept (MayBecome (used_for Going)) a b → ((layout : ℕ) → count (is_in (layout + 2)) b ≤ 0) → Turns is_kept (Becomes (used_for Going)) a b
+  all_trimmed a b trims few = record {
+    long = trims.long;
+    rest = trims.rest;
+    here = λ p kept. grind (arith, common_steps, trims.here p kept, count_none (is_in ((slot_at a p).layout + 2)) b, few (slot_at a p).layout);
+  }
+
+  -- sets that went were returned
+  returned : (test : Slot T → Bool) (a b new : List (Slot T)) → ((s : Slot T) → test s ≡ true → is_some s.set ≡ true) → ((p : ℕ) → goes (slot_at a p) ≡ false) → Turns test (Becomes (used_for Going)) a b → Turns goes (Becomes vacated) b new → Turns test (Becomes vacated) a new
+  returned test a b new full none went gives = grind (arith, common_steps)
 
   -- a cleanup in three steps: no set is kept later, the kept ones go, and those that go were returned
   pub cleaned : (old a b new : List (Slot T)) → ArePlaced old → Turns (λ s. true) (Becomes aged) old a → Turns is_kept (MayBecome (used_for Going)) a b → ((layout : ℕ) → count (is_in (layout + 2)) b ≤ 0) → Turns goes (Becomes vacated) b new → AreCleaned old new
-  cleaned old a b new placed aged_all trims few gives = record {
-    long = gives.long ∙ trims.long ∙ aged_all.long;
-    rest = λ p no. absurd (true≢false no);
-    here = λ p yes. by_test p (is_kept (slot_at old p)) refl;
-  }
-    where
-      -- a slot whose set isn't kept is aged; a kept one is aged, goes, and is returned
-      by_test : (p : ℕ) → (c : Bool) → is_kept (slot_at old p) ≡ c → slot_at new p ≡ (if is_kept (slot_at old p) then vacated (aged (slot_at old p)) else aged (slot_at old p))
-      by_test p false e = search (rules, none_goes)
-      by_test p true e = let here = aged_all.here p refl in let back = kept_returned a b new trims few gives p (ap is_kept here ∙ e) in search rules
+  cleaned old a b new placed aged_all trims few gives = (
+      let left = returned is_kept a b new kept_full (λ p. ap goes (aged_all.here p refl) ∙ none_goes old placed p) (all_trimmed a b trims few) gives in
+      grind (arith, common_steps))
 
--- The slots are `a` at first, `b` once those that wait go, `c` once the held ones go, `d` once the kept ones go, and `new` once all that
--- go were returned. `one`, `two` and `three` are what the slot at a place is in `b`, `c` and `d`.
+  -- slots turned that pass one test, and then those that pass another
+  turned_both : (t u : Slot T → Bool) (f : Slot T → Slot T) (a b c : List (Slot T)) → ((s : Slot T) → u (f s) ≡ false) → Turns t (Becomes f) a b → Turns u (Becomes f) b c → Turns (λ s. t s || u s) (Becomes f) a c
+  turned_both t u f a b c out one two = grind (arith, common_steps)
 
--- one of the four ways to be placed
-placed_or : (a b c d : Bool) → (not a || (b || (c || d))) ≡ true → (a ≡ false) ⊎ ((b ≡ true) ⊎ ((c ≡ true) ⊎ (d ≡ true)))
-placed_or x0 b c d e = grind (arith, common_steps)
+  -- a placed set waits, is held, or is kept
+  placed_is : (s : Slot T) → is_placed s ≡ true → ((waits s || holds s) || is_kept s) ≡ is_some s.set
+  placed_is s placed = grind (arith, common_steps)
 
-held_unwaited : (u : Use) (full : Bool) → (is_held_use u && full) ≡ true → (waits_for (λ w. true) u && full) ≡ false
-held_unwaited u full e = grind (arith, common_steps)
-
-kept_apart : (u : Use) (layout generation : ℕ) (full : Bool) → in_list (layout + 2) u layout generation full ≡ true → ((waits_for (λ w. true) u && full) ≡ false) × ((is_held_use u && full) ≡ false)
-kept_apart u layout generation full e = grind (arith, common_steps)
-
-empty_none : {T : Type 0} (o : Option T) → is_some o ≡ false → o ≡ None
-empty_none x0 e = grind (arith, common_steps)
-
-empty_out : (a full : Bool) → full ≡ false → (a && full) ≡ false
-empty_out x0 full e = grind (arith, common_steps)
-
-empty_kept : {T : Type 0} (s : Slot T) → is_some s.set ≡ false → is_kept s ≡ false
-empty_kept s e = grind (arith, common_steps)
-
-module _ {T : Type 0} (a b c d new : List (Slot T)) (placed : ArePlaced a) (wait : Turns waits (Becomes (used_for Going)) a b)
-    (leave : Turns holds (Becomes (used_for Going)) b c) (trims : Turns is_kept (MayBecome (used_for Going)) c d)
-    (few : (layout : ℕ) → count (is_in (layout + 2)) d ≤ 0) (gives : Turns goes (Becomes vacated) d new) where
-  -- a set that goes was returned
-  given : (p : ℕ) (s : Slot T) → is_some s.set ≡ true → slot_at d p ≡ used_for Going s → slot_at new p ≡ vacated s
-  given p s full e = gives.here p (ap goes e ∙ full) ∙ ap vacated e
-
-  -- a set that goes before the kept ones do
-  going : (p : ℕ) (s : Slot T) → is_some s.set ≡ true → slot_at c p ≡ used_for Going s → slot_at new p ≡ vacated s
-  going p s full e = given p s full (trims.rest p (ap is_kept e ∙ going_out (s.layout + 2) s (omega arith)) ∙ e)
-
-  -- a slot without a set is as it was
-  empty_stays : (p : ℕ) → is_some (slot_at a p).set ≡ false → slot_at new p ≡ slot_at a p
-  empty_stays p e = grind (arith, common_steps, empty_kept, empty_out, none_goes)
-
-  -- a held set left its slot, and so below did one that waited, and a kept one
-  held_leaves : (p : ℕ) → holds (slot_at a p) ≡ true → is_some (slot_at a p).set ≡ true → slot_at new p ≡ vacated (slot_at a p)
-  held_leaves p e full = grind (arith, common_steps, going, held_unwaited)
-
-  waiting_leaves : (p : ℕ) → waits (slot_at a p) ≡ true → is_some (slot_at a p).set ≡ true → slot_at new p ≡ vacated (slot_at a p)
-  waiting_leaves p e full = let one = wait.here p e in going p (slot_at a p) full (leave.rest p (ap holds one) ∙ one)
-
-  kept_leaves : (p : ℕ) → is_kept (slot_at a p) ≡ true → slot_at new p ≡ vacated (slot_at a p)
-  kept_leaves p e =
-      let s = slot_at a p in
-      let out = kept_apart s.used s.layout s.generation (is_some s.set) e in
-      let one : slot_at b p ≡ s = wait.rest p out.0 in
-      let two : slot_at c p ≡ s = leave.rest p (ap holds one ∙ out.1) ∙ one in
-      kept_returned c d new trims few gives p (ap is_kept two ∙ e) ∙ ap vacated two
-
-  -- so each set of a store at rest left its slot
-  pub all_leave : Turns (λ s. is_some s.set) (Becomes vacated) a new
-  all_leave = grind (arith, common_steps, empty_stays, held_leaves, kept_leaves, placed_or, true≢false, waiting_leaves)
+  -- each set of a store at rest left its slot, once those that wait, the held ones, and the kept ones went and were returned
+  pub all_leave : (a b c d new : List (Slot T)) → ArePlaced a → Turns waits (Becomes (used_for Going)) a b → Turns holds (Becomes (used_for Going)) b c → Turns is_kept (MayBecome (used_for Going)) c d → ((layout : ℕ) → count (is_in (layout + 2)) d ≤ 0) → Turns goes (Becomes vacated) d new → Turns (λ s. is_some s.set) (Becomes vacated) a new
+  all_leave a b c d new placed wait leave trims few gives = (
+      let test : Slot T → Bool = λ s. (waits s || holds s) || is_kept s in
+      let went = turned_both (λ s. waits s || holds s) is_kept (used_for Going) a c d (λ s. going_out (s.layout + 2) s (omega arith)) (turned_both waits holds (used_for Going) a b c (λ s. refl) wait leave) (all_trimmed c d trims few) in
+      let full : (s : Slot T) → test s ≡ true → is_some s.set ≡ true = λ s yes. grind (arith, common_steps) in
+      let left = returned test a d new full (none_goes a placed) went gives in
+      record { long = left.long; rest = λ p no. left.rest p (placed_is (slot_at a p) (placed p) ∙ no); here = λ p yes. left.here p (placed_is (slot_at a p) (placed p) ∙ yes) })
 
 -- no slot has a set then, and each has its generation
 module _ {T : Type 0} (old new : List (Slot T)) (left : Turns (λ s. is_some s.set) (Becomes vacated) old new) (p : ℕ) where
   stays_or : ((slot_at new p ≡ slot_at old p) × ((slot_at old p).set ≡ None)) ⊎ (slot_at new p ≡ vacated (slot_at old p))
-  stays_or = grind (arith, common_steps, empty_none)
+  stays_or = grind (arith, common_steps)
 
   pub left_none : (slot_at new p).set ≡ None
   left_none = grind (arith, common_steps, stays_or)
 
   pub left_follows : (comes : ℕ → T → Type 0) → Arrives comes (slot_at old p) (slot_at new p)
   left_follows comes = search (rules, same_arrives, follows_vacated, stays_or)
+
+-- Held sets that are freed by their handles: for `Store::wait_each` and `free_each`.
+
+-- the same sets are there, if each slot that turns has its set still
+pub each_sets : {T : Type 0} {handles : List SetHandle} {becomes : List (Slot T) → Slot T → Slot T → Type 0} {old new : List (Slot T)} → TurnEach handles becomes old new → ((o n : Slot T) → becomes new o n → n.set ≡ o.set) → sets_in new ≡ sets_in old
+each_sets {handles = handles} {old = old} {new} turns same = same_sets old new turns.long (λ p. grind (arith, common_steps, named_or (length handles) (place_at handles) p, turns.rest p))
+
+-- also if none turned
+pub any_sets : {T : Type 0} {handles : List SetHandle} {becomes : List (Slot T) → Slot T → Slot T → Type 0} {old new : List (Slot T)} (b : Bool) → (b ≡ true → TurnEach handles becomes old new) → (b ≡ false → new ≡ old) → ((o n : Slot T) → becomes new o n → n.set ≡ o.set) → sets_in new ≡ sets_in old
+any_sets false turns none same = ap sets_in (none refl)
+any_sets true turns none same = each_sets (turns refl) same
+
+-- those that went were returned
+pub back_each :
+    {T : Type 0} (handles : List SetHandle) (number : ℕ) (removed : ℕ → Bool) (max : ℕ) (old mid new : List (Slot T)) → AreHeldOnce number old handles → TurnEach handles (IsBack (used_for Going) removed max) old mid → ArePlaced old → Turns goes (Becomes vacated) mid new → TurnEach handles (IsBack vacated removed max) old new
+back_each handles number removed max old mid new once settled placed gives = record {
+  long = gives.long ∙ settled.long;
+  named = λ i lt. grind (arith, common_steps, settled.named i lt, gives.rest (place_at handles i), gives.here (place_at handles i), given_kept mid new gives ((slot_at old (place_at handles i)).layout + 2), kept_stays (slot_at old (place_at handles i)), full i lt);
+  rest = λ p apart. (let same = settled.rest p apart in gives.rest p (ap goes same ∙ none_goes old placed p) ∙ same);
+}
+  where
+    full : (i : ℕ) → i < length handles → is_some (slot_at old (place_at handles i)).set ≡ true
+    full i lt = (let z : SetHandle = record { manager = 0; place = 0; generation = 0 } in (held_is number old (get_or handles i z) (once.held i z lt)).full)
+
+-- What is left after a cleanup, and if no slot has a set: for `SetManager::cleanup` and `shutdown`.
+
+module _ {T : Type 0} where
+  -- no slot has a set
+  pub no_sets : (slots : List (Slot T)) → ((p : ℕ) → p < length slots → (slot_at slots p).set ≡ None) → sets_in slots ≡ []
+  no_sets [] none = refl
+  no_sets (s ∷ slots) none = ap (λ o. joined o (sets_in slots)) (none 0 (omega arith)) ∙ no_sets slots (λ p within. none (suc p) (omega arith))
+
+  -- with none held, and none that waits, no set is left
+  pub cleaned_empty : (old new : List (Slot T)) → ((p : ℕ) → is_placed (slot_at old p) ≡ true) → AreCleaned old new → count holds old ≡ 0 → count waits old ≡ 0 → length (sets_in new) ≡ 0
+  cleaned_empty old new placed cleaned held waiting = search (rules, count_none, no_sets)
+
+  -- without a set none is held, and none waits
+  pub none_used : (test : Use → Bool) (slots : List (Slot T)) → ((p : ℕ) → (slot_at slots p).set ≡ None) → count (λ s. test s.used && is_some s.set) slots ≡ 0
+  none_used test slots none = none_count (λ s. test s.used && is_some s.set) slots (λ p. ap (λ x. test (slot_at slots p).used && is_some x) (none p) ∙ and-false (test (slot_at slots p).used))

@@ -4,7 +4,7 @@ pub use Rattle.std.proofs.Common.{sym, take, take-suc-set, take_all, true, trueâ
 pub use Rattle.std.proofs.Math.Bool.{and-false}
 pub use Rattle.std.proofs.lemmas.Bool.{and_left, and_right, cases_eq, cases_lt, le-leb, lt-leb}
 pub use Rattle.std.proofs.lemmas.Grind.{common_steps}
-pub use Rattle.std.proofs.lemmas.List.{get_or-append-add, get_or-append_right, get_or_append_left, get_or_default, get_or_past, get_or_push, length-append, take-map}
+pub use Rattle.std.proofs.lemmas.List.{get_or-append-add, get_or_append_left, get_or_default, get_or_past, get_or_push, length-append, take-map}
 pub use Rattle.std.proofs.lemmas.Option.{same_Some}
 pub use Rattle.descriptor_manager.specs.LayoutRegistries.{layout_at, layout_slots, layouts_by, registry_of}
 pub use Rattle.descriptor_manager.specs.Managers.{Rendering, pools_for, seen}
@@ -16,7 +16,7 @@ pub use Rattle.descriptor_manager.specs.declared.layout_registry.LayoutRegistry.
 pub use Rattle.descriptor_manager.specs.declared.manager.SetManager.{SetManager}
 pub use Rattle.descriptor_manager.specs.declared.store.Store.{Store}
 pub use Rattle.descriptor_table.proofs.Chains.{lists_apart, live_no_list}
-pub use Rattle.descriptor_table.proofs.Counts.{count_few, count_none, count_same, count_set, none_count, same_count}
+pub use Rattle.descriptor_table.proofs.Counts.{count_same, count_few, count_none, count_set, none_count, same_count}
 pub use Rattle.descriptor_table.proofs.Holding.{held_is, named_or}
 pub use Rattle.descriptor_table.proofs.Leaving.{given_all, given_weigh, group_out, same_sets, tally, tally_length}
 pub use Rattle.descriptor_table.proofs.Listed.{bit, other_slots, past_end, slot_set, test_within}

@@ -44,13 +44,12 @@ module _ {T : Type 0} where
   pub renewed_sets : (number p : ℕ) (u : Use) (handle : SetHandle) (old new : List (Slot T)) → Renews number p u handle old new → sets_in new ≡ sets_in old
   renewed_sets number p u handle old new renews = ap sets_in renews.slots ∙ set_sets old p (renewed u (slot_at old p)) refl
 
-module _ {S : Type 0} (name : S → ℕ) where
-  -- what was returned, and what is left, is what there was
-  pub given_count :
-      (xs : List (DescriptorSet S)) (s u : Giving (DescriptorSet S)) → Yields GivesNext s xs u → (t : Item)
-      → count_of t (items_of name (sets_in (slots_of s.table.now)))
-      ≡ count_of t (items_of name xs) + count_of t (items_of name (sets_in (slots_of u.table.now)))
-  given_count xs s u y t = omega (arith, given_weigh (weight name t) xs s u y, counts name t (sets_in (slots_of s.table.now)), counts name t xs, counts name t (sets_in (slots_of u.table.now)))
+-- what was returned, and what is left, is what there was
+pub given_count :
+    {S : Type 0} (name : S → ℕ) (xs : List (DescriptorSet S)) (s u : Giving (DescriptorSet S)) → Yields GivesNext s xs u → (t : Item)
+    → count_of t (items_of name (sets_in (slots_of s.table.now)))
+    ≡ count_of t (items_of name xs) + count_of t (items_of name (sets_in (slots_of u.table.now)))
+given_count name xs s u y t = omega (arith, given_weigh (weight name t) xs s u y, counts name t (sets_in (slots_of s.table.now)), counts name t xs, counts name t (sets_in (slots_of u.table.now)))
 
 -- an iterator gave sets to its end
 module _ {S : Type 0} (xs : List (DescriptorSet S)) (s u : Giving (DescriptorSet S)) (d : YieldsThen GivesNext s xs None u) where

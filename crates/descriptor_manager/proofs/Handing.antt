@@ -1,13 +1,13 @@
 -- A set that comes to a use: for `hold_next`, `hold_last`, `LayoutRegistry::add` and `Joining`. `cleared_of`, `unmet_slots` and `refused_arrives`
 -- say what a refusal leaves. `o` is its slot before and `n` after, `p` its place, `u` the use, and `handle` the next one of the slot.
-use Rattle.descriptor_manager.proofs.Common.{common_steps, ◌≡◌, ◌≢◌, ℕ, ◌+◌, ◌<◌, ◌⊎◌, true, List, [], ◌∷◌, length, Some, is_some, sym, ap, subst, ◌∙◌, arith, rules, Ghosts, DescriptorSet, AllocationError, cases_eq, Slot, count, frame_of, is_kept_of, is_live, slot_at, Puts, Renews, is_usable}
-use Rattle.descriptor_manager.proofs.Common.{renewed, SetHandle, Use, lists_apart, live_no_list, bit, count_set, same_count, other_slots, slot_set, kept_is, AreCleaned, ComesInto, HoldEach, IsCleared, IsRefusedAtLast, IsUnmet, slots_in, Store}
+use Rattle.descriptor_manager.proofs.Common.{common_steps, ◌≡◌, ◌≢◌, ℕ, ◌+◌, ◌<◌, ◌⊎◌, true, List, [], ◌∷◌, length, Some, is_some, sym, ap, subst, ◌∙◌, arith, rules, Ghosts, DescriptorSet, AllocationError, cases_eq, Slot, count, frame_of, is_kept_of, is_live, slot_at, Puts, Renews, is_usable, renewed, SetHandle, Use, lists_apart}
+use Rattle.descriptor_manager.proofs.Common.{live_no_list, bit, count_set, same_count, other_slots, slot_set, kept_is, AreCleaned, ComesInto, HoldEach, IsCleared, IsRefusedAtLast, IsUnmet, slots_in, Store, false, inl, inr, AreAllUsed, Grows, named_or}
 use Rattle.descriptor_manager.proofs.Arriving.{Arrives, arrives_then, clears, clears_arrives, same_arrives}
-use Rattle.descriptor_manager.proofs.Naming.{free_kept, free_none, is_free, kept_as, next_of}
+use Rattle.descriptor_manager.proofs.Naming.{is_free, kept_as, next_of}
 
 module _ {T : Type 0} (layout : ℕ) (u : Use) (o n : Slot T) (came : ComesInto layout u o n) where
   pub came_free : is_free o ≡ true
-  came_free = search (rules, free_kept, free_none, kept_as)
+  came_free = grind (arith, common_steps, kept_as)
 
   pub came_next : n.generation ≡ o.generation + 1
   came_next = search rules
@@ -60,3 +60,21 @@ module _ {L P S D : Type 0} {d : Ghosts D L P S} where
   -- a set was refused
   pub refused_arrives : (comes : ℕ → DescriptorSet S → Type 0) (layout : L) (first last : ℕ) (error : AllocationError) (old new : Store L P S D d) → IsRefusedAtLast layout first last error old new → (q : ℕ) → Arrives comes (slot_at (slots_in old) q) (slot_at (slots_in new) q)
   refused_arrives comes layout first last error old new refused q = search (rules, arrives_then, cleared_of, clears, clears_arrives, same_arrives, unmet_slots)
+
+-- There are more slots only if each has a set, or had its last generation (`Grows`): for the calls of `Store` that give handles.
+
+module _ {T : Type 0} where
+  -- a new set gets a handle
+  pub grow_new : (number layout p : ℕ) (x : T) (u : Use) (handle : SetHandle) (old mid new : List (Slot T)) → ((s : Slot T) → is_usable (renewed u s) ≡ false) → Puts layout x p old mid → Renews number p u handle mid new → (length new ≡ length old) ⊎ AreAllUsed old → Grows old new
+  grow_new number layout p x u handle old mid new used puts r grows = elim grows [
+    | inl same ↦ inl same
+    | inr all ↦ inr (λ q. grind (arith, common_steps, cases_eq q p, slot_set mid p (renewed u (slot_at mid p)) puts.within, other_slots mid p (renewed u (slot_at mid p)) q, puts.others q, all q))
+  ]
+
+  -- one step after others
+  pub grow_more : (number : ℕ) (layout : ℕ) (u : Use) (handles : List SetHandle) (old mid new : List (Slot T)) → is_live (frame_of u) true u ≡ true → Grows old mid → Grows mid new → HoldEach number layout u handles mid new → Grows old new
+  grow_more number layout u handles old mid new live first last holding = search (rules, came_used, live_no_list, named_or)
+
+module _ {L P S D : Type 0} {d : Ghosts D L P S} where
+  pub cleared_long : (layout : L) (first last : ℕ) (old new : Store L P S D d) → IsCleared layout first last old new → length (slots_in new) ≡ length (slots_in old)
+  cleared_long layout first last old new clear = clear.cleaned.long ∙ ap length clear.first_refused.slots

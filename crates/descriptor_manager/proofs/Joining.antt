@@ -2,11 +2,13 @@
 -- The slots are `old` before the handles `a` are given, `mid` between, and `new` after the handles `b`; `x` and `y` say so of `a` and `b`.
 -- Handles are written into a list `now`, of which the first are given: those before the place `n`.
 use Rattle.descriptor_manager.proofs.Common.{common_steps, ◌≡◌, ◌≢◌, ℕ, ◌+◌, ◌-◌, ◌<◌, ◌⊎◌, ◌||◌, Bool, true, List, [], ◌++◌, length, get_or, Some, is_some, IsSome, inl, inr, refl, sym, ap, subst, ◌∙◌, arith, set, take, true≢false, rules, cases_lt, get_or-append-add, get_or_append_left}
-use Rattle.descriptor_manager.proofs.Common.{length-append, Ghosts, DescriptorSet, Slot, frame_of, is_kept_of, is_live, slot_at, waits_for, NameEach, find, is_given, sets_of, HasLayout, Settings, is_held_use, place_at, SetHandle, Use, named_or, ComesInto, HoldEach, KeepsStore, NoneComes}
-use Rattle.descriptor_manager.proofs.Common.{SetsCome, slots_in, Store}
+use Rattle.descriptor_manager.proofs.Common.{length-append, Ghosts, DescriptorSet, Slot, frame_of, is_kept_of, is_live, slot_at, waits_for, NameEach, find, is_given, sets_of, HasLayout, Settings, is_held_use, place_at, SetHandle, Use, named_or, ComesInto, HoldEach, Holds, KeepsStore}
+use Rattle.descriptor_manager.proofs.Common.{SetsCome, slots_in, Store, ◌∷◌, map, add-one, take-suc-set, get_or_default, take-map, AllFit, handles_long, handles_written, place_read}
 use Rattle.descriptor_manager.proofs.Arriving.{Arrives, Clears, arrives_then, clears_arrives, same_arrives, used_placed}
-use Rattle.descriptor_manager.proofs.Handing.{came_free, came_full, came_next, came_used}
+use Rattle.descriptor_manager.proofs.Handing.{came_free, came_full, came_next, came_used, grow_more}
 use Rattle.descriptor_manager.proofs.Naming.{free_is, is_free, given_apart, given_clear, next_of, seen_apart, seen_clear, seen_free, seen_next}
+use Rattle.std.proofs.lemmas.List.Elements.{All-append, All-cons, All-nil}
+use Rattle.descriptor_table.specs.declared.handle.SetName as set_names
 
 -- a place of two lists is one of the first, or of the second
 spot : (a b : List SetHandle) (i : ℕ) → i < length (a ++ b) → ((i < length a) × (place_at (a ++ b) i ≡ place_at a i)) ⊎ ((k : ℕ) × (k < length b) × (i ≡ length a + k) × (place_at (a ++ b) i ≡ place_at b k))
@@ -68,13 +70,10 @@ module _ {T : Type 0} where
           let came = subst (λ q. ComesInto layout u (slot_at mid q) (slot_at new q)) found.2 (x.comes found.0 found.1) in
           record {
             set = sets q;
-            placed = λ was. used_placed (slot_at new q) (came_full layout u (slot_at mid q) (slot_at new q) came) (ap (λ u. is_held_use u || waits_for (λ w. true) u) (came_used layout u (slot_at mid q) (slot_at new q) came) ∙ live_placed u live);
+            placed = λ was. used_placed (slot_at new q) (came_full layout u (slot_at mid q) (slot_at new q) came) (ap (λ u. is_held_use u || waits_for (λ w. true) u) (came_used layout u (slot_at mid q) (slot_at new q) came) ∙ grind (arith, common_steps));
           }
       | inr none ↦ same_arrives comes (slot_at mid q) (slot_at new q) (x.rest q none)
     ])
-      where
-        live_placed : (u : Use) → is_live (frame_of u) true u ≡ true → (is_held_use u || waits_for (λ w. true) u) ≡ true
-        live_placed u live = grind (arith, common_steps)
 
     -- a handle that is none of these names what it named
     others_keep : (frame : ℕ) (opened : Bool) (other : SetHandle) → ((i : ℕ) (d : SetHandle) → i < length handles → get_or handles i d ≢ other) → (find number frame opened new other ≡ find number frame opened old other) × (is_given number new other ≡ is_given number old other)
@@ -104,12 +103,8 @@ module _ {T : Type 0} where
 
 module _ {S : Type 0} where
   -- sets that came in two steps
-  pub sets_then : (comes : ℕ → DescriptorSet S → Type 0) (old mid new : List (Slot (DescriptorSet S))) → SetsCome comes old mid → SetsCome comes mid new → SetsCome comes old new
-  sets_then comes old mid new a b p x e = search rules
-
-  -- sets that are where they were, before others came
-  pub kept_then : (comes : ℕ → DescriptorSet S → Type 0) (old mid new : List (Slot (DescriptorSet S))) → SetsCome NoneComes old mid → SetsCome comes mid new → SetsCome comes old new
-  kept_then comes old mid new a b = search (rules, sets_then)
+  pub sets_after : (first comes : ℕ → DescriptorSet S → Type 0) (old mid new : List (Slot (DescriptorSet S))) → ((n : ℕ) (x : DescriptorSet S) → first n x → comes n x) → SetsCome first old mid → SetsCome comes mid new → SetsCome comes old new
+  sets_after first comes old mid new each a b p x e = search rules
 
 module _ {L P S D : Type 0} {d : Ghosts D L P S} where
   pub store_same : (s : Store L P S D d) → KeepsStore s s
@@ -117,6 +112,17 @@ module _ {L P S D : Type 0} {d : Ghosts D L P S} where
 
   pub stays_then : (old mid new : Store L P S D d) → KeepsStore old mid → KeepsStore mid new → KeepsStore old new
   stays_then old mid new a b = search rules
+
+  -- a store that gave handles, after it gave others
+  pub holds_after :
+      (first comes : ℕ → DescriptorSet S → Type 0) (number layout : ℕ) (u : Use) (handles : List SetHandle) (old mid new : Store L P S D d) → ((n : ℕ) (x : DescriptorSet S) → first n x → comes n x) → is_live (frame_of u) true u ≡ true
+      → HoldEach number layout u handles (slots_in mid) (slots_in new) → Holds first old mid → Holds comes mid new → Holds comes old new
+  holds_after first comes number layout u handles old mid new each live holds a b = record {
+    side = b.side ∙ a.side;
+    sets = sets_after first comes (slots_in old) (slots_in mid) (slots_in new) each a.sets b.sets;
+    grows = grow_more number layout u handles (slots_in old) (slots_in mid) (slots_in new) live a.grows b.grows holds;
+    stays = stays_then old mid new a.stays b.stays;
+  }
 
   pub layout_stays : (layout : ℕ) (old new : Store L P S D d) → KeepsStore old new → HasLayout layout old.table → HasLayout layout new.table
   layout_stays layout old new stays has = record { within = subst (λ n. layout < n) (sym (ap (λ (s : Settings). s.layouts) stays.settings)) has.within; there = ap (λ (s : Settings). s.removed layout) stays.settings ∙ has.there }
@@ -129,3 +135,28 @@ module _ {L P S D : Type 0} {d : Ghosts D L P S} where
     -- none is given yet
     pub held_start : (old : Store L P S D d) → HoldEach old.table.number layout u [] (slots_in old) (slots_in old)
     held_start old = search rules
+
+-- Names that fit the sets in their slots, while other names are made: `n` says which handle each has.
+module _ {N T : Type 0} (n : set_names.Ghosts N T) (each : (names : List N) → n.handles_of names ≡ map n.handle_of names) (number layout : ℕ) (u : Use) (live : is_live (frame_of u) true u ≡ true) where
+  -- names that are made leave those before them fit
+  pub fit_both : (a b : List N) (old mid new : List (Slot T)) → HoldEach number layout u (n.handles_of a) old mid → HoldEach number layout u (n.handles_of b) mid new → AllFit n.handle_of n.fit mid a → AllFit n.handle_of n.fit new b → AllFit n.handle_of n.fit new (a ++ b)
+  fit_both a b old mid new x y fits last = All-append (λ z. n.fit z (slot_at new (n.handle_of z).place).set ≡ true) a b (λ i d less.
+      let z = get_or a i d in
+      let stays = subst (λ p. slot_at new p ≡ slot_at mid p) (place_read n each a i z (n.handle_of z) less (get_or_default a i d z less) refl) (first number layout u live (n.handles_of a) (n.handles_of b) old mid new x y i (let long = handles_long n each a in omega arith)) in
+      subst (λ (s : Slot T). n.fit z s.set ≡ true) (sym stays) (fits i d less)) last
+
+  -- one name more is made, and a handle, which is given
+  pub one_more :
+      (names : List N) (i : ℕ) (x : N) (old mid new : List (Slot T)) → i < length names → HoldEach number layout u (take i (n.handles_of names)) old mid → HoldEach number layout u (n.handle_of x ∷ []) mid new
+      → AllFit n.handle_of n.fit mid (take i names) → n.fit x (slot_at new (n.handle_of x).place).set ≡ true
+      → HoldEach number layout u (take (i + 1) (n.handles_of (set names i x))) old new × AllFit n.handle_of n.fit new (take (i + 1) (set names i x))
+  one_more names i x old mid new lt a b fits here =
+      let long = handles_long n each names in
+      let first = handles_written n each names i x (n.handle_of x) refl in (
+        subst (λ l. HoldEach number layout u l old new) (sym (ap (take (i + 1)) first ∙ ap (λ m. take m (set (n.handles_of names) i (n.handle_of x))) (add-one i) ∙ take-suc-set (n.handles_of names) i (n.handle_of x) (omega arith))) (joined number layout u live _ _ old mid new a b),
+        subst (AllFit n.handle_of n.fit new) (sym (ap (λ m. take m (set names i x)) (add-one i) ∙ take-suc-set names i x lt))
+            (fit_both (take i names) (x ∷ []) old mid new
+            (subst (λ l. HoldEach number layout u l old mid) (sym (each (take i names) ∙ sym (take-map n.handle_of i names) ∙ ap (take i) (sym (each names)))) a)
+            (subst (λ l. HoldEach number layout u l mid new) (sym (each (x ∷ []))) b)
+            fits (All-cons (λ z. n.fit z (slot_at new (n.handle_of z).place).set ≡ true) x [] here (All-nil (λ z. n.fit z (slot_at new (n.handle_of z).place).set ≡ true)))),
+      )

@@ -1,11 +1,39 @@
 -- Requests that kept sets met, or kept and new ones, or none: for `Store::allocate`, `allocate_new`, `allocate_each` and `allocate_with_new`.
-use Rattle.descriptor_manager.proofs.Common.{◌≡◌, ◌∙◌, ℕ, ◌+◌, ◌-◌, ◌<◌, ◌≤◌, true, List, [], length, Ok, Err, inl, refl, ap, arith, inr, Ghosts, Side, items_of, state_of, Allocations, Item, count_of, outstanding, AllocationError, sets_in, frame_of, is_kept_of, is_live, slot_at, place_at}
-use Rattle.descriptor_manager.proofs.Common.{SetHandle, Use, AsksAtLast, ComesOf, HoldEach, Holds, IsAtRest, IsRefusedAtLast, KeepsStore, NoneComes, Requests, kept_of, side_of, slots_in, Store, common_steps}
-use Rattle.descriptor_manager.proofs.Arriving.{Clears, arrived, same_clears}
-use Rattle.descriptor_manager.proofs.Bringing.{brought}
-use Rattle.descriptor_manager.proofs.Growing.{cleared_long}
-use Rattle.descriptor_manager.proofs.Handing.{refused_arrives, unmet_slots}
-use Rattle.descriptor_manager.proofs.Joining.{held_stays, holds_arrives, kept_then, stays_then, store_same}
+use Rattle.descriptor_manager.proofs.Common.{common_steps, ◌≡◌, ℕ, ◌+◌, ◌-◌, ◌<◌, List, length, sym, ap, subst, ◌∙◌, arith, true≢false, Ghosts, AreOfLayout, Slot, count, is_kept_of, slot_at, count_none, none_count, AreCleaned, Asks, AsksAtLast, kept_of, slots_in, Store, ◌≤◌, true, [], Ok, Err, inl, refl, inr, Side, items_of, state_of}
+use Rattle.descriptor_manager.proofs.Common.{Allocations, Item, count_of, outstanding, AllocationError, sets_in, frame_of, is_live, place_at, SetHandle, Use, ComesOf, HoldEach, Holds, IsAtRest, IsRefusedAtLast, KeepsStore, NoneComes, Requests, side_of, slice_index_or, Result, Some, IsOfLayout, SetLayout, DescriptorSet, cases_lt}
+use Rattle.descriptor_manager.proofs.Common.{NameEach, sets_of, get_or_default, layout_at, layout_slots, HasSetsOf, LayoutHandle, SetManager, same_Some}
+use Rattle.descriptor_manager.proofs.Arriving.{Clears, clears, none_left, same_clears, arrived}
+use Rattle.descriptor_manager.proofs.Handing.{cleared_long, cleared_of, refused_arrives, unmet_slots, came_layout}
+use Rattle.descriptor_manager.proofs.Naming.{kept_as}
+use Rattle.descriptor_manager.proofs.Joining.{held_stays, holds_arrives, sets_after, stays_then, store_same, are_named}
+use Rattle.descriptor_manager.proofs.Owned.{found_set, layout_here, sets_settle}
+
+-- Sets that were asked for, and are on their way.
+
+-- after a cleanup none of any layout is kept
+none_left_of : {T : Type 0} (old new : List (Slot T)) → AreCleaned old new → (layout : ℕ) → count (is_kept_of layout) new ≡ 0
+none_left_of old new c layout = grind (arith, common_steps, count_none, kept_as, none_count, none_left, true≢false)
+
+module _ {L P S D : Type 0} {d : Ghosts D L P S} where
+  -- kept sets may have gone, and sets of the layout are on their way: fewer than were requested, if some are kept
+  pub record Brings (layout : L) (number many : ℕ) (old new : Store L P S D d) : Type 0 where
+    pub clear : (q : ℕ) → Clears (slot_at (slots_in old) q) (slot_at (slots_in new) q)
+    pub long : length (slots_in new) ≡ length (slots_in old)
+    pub besides : (i : ℕ) → i < many → i < kept_of number new → i + length new.coming.items < many
+    pub own : AreOfLayout d.meaning layout new.coming.items
+
+  module _ (layout : L) (number first many : ℕ) (old mid new : Store L P S D d) (clear : (q : ℕ) → Clears (slot_at (slots_in old) q) (slot_at (slots_in mid) q)) (long : length (slots_in mid) ≡ length (slots_in old)) where
+    asked : ((i : ℕ) → i < many → i < kept_of number mid → i + first < many) → Asks layout first mid new → Brings layout number many old new
+    asked besides asks = record {
+      clear = λ q. subst (λ l. Clears (slot_at (slots_in old) q) (slot_at l q)) (sym asks.slots) (clear q);
+      long = ap length asks.slots ∙ long;
+      besides = λ i lt some. (let n = asks.hands_out.many in let same = ap (count (is_kept_of number)) asks.slots in let less = besides i lt (omega arith) in omega arith);
+      own = asks.own;
+    }
+
+  -- what `Store::bring` leaves
+  pub brought : (layout : L) (number many : ℕ) (old new : Store L P S D d) → kept_of number old < many → AsksAtLast layout (many - kept_of number old) many old new → Brings layout number many old new
+  brought layout number many old new few asks = grind (arith, common_steps, asked, cleared_long, cleared_of, clears, none_left_of, same_clears)
 
 -- the sets that were on their way are in the table if none is any more, and the device wasn't called
 pub gained :
@@ -13,48 +41,45 @@ pub gained :
     → count_of t (items_of d.meaning.set_name (sets_in (slots_in new))) ≡ count_of t (items_of d.meaning.set_name (sets_in (slots_in ready))) + count_of t (items_of d.meaning.set_name ready.coming.items)
 gained {L} {P} {S} {D} {d} ready new side none t = omega (arith, ap (λ (s : Side (Allocations P)). outstanding (state_of d.meaning.pool_name s.value s.ledger) t) side, ap (λ l. count_of t (items_of d.meaning.set_name l)) none, ready.exact t, new.exact t)
 
-module _ {L P S D : Type 0} {d : Ghosts D L P S} {R : Type 0} (known : L) (layout many : ℕ) (u : Use) (handles : List SetHandle) (old ready new : Store L P S D d) (rest : IsAtRest old) where
-  -- sets were kept or are on their way, and all have handles
-  from_ready :
-      (result : R) → is_live (frame_of u) true u ≡ true → (many ≤ kept_of layout old → (ready ≡ old) × (side_of new ≡ side_of old) × (length (slots_in new) ≡ length (slots_in old)))
-      → (kept_of layout old < many → AsksAtLast known (many - kept_of layout old) many old ready) → ((q : ℕ) → Clears (slot_at (slots_in old) q) (slot_at (slots_in ready) q))
-      → length (slots_in ready) ≡ length (slots_in old) → KeepsStore old ready → HoldEach ready.table.number layout u handles (slots_in ready) (slots_in new)
-      → ((i : ℕ) → i < length handles → i < kept_of layout ready → is_kept_of layout (slot_at (slots_in ready) (place_at handles i)) ≡ true)
-      → Holds (ComesOf d.meaning known layout) ready new → new.coming.items ≡ [] → Requests known layout many u handles (Ok result) old new
-  from_ready result live enough asks clear long stays holds kept_first keeps none =
-      let held = held_stays layout u handles (slots_in ready) (slots_in new) old ready stays holds in
-      let comes = ComesOf d.meaning known layout in
-      record {
-        takes = record {
-          ready = ready;
-          enough = λ le. (enough le).0;
-          asks = asks;
-          kept_first = kept_first;
-          holds = held;
-          side = keeps.side;
-          gained = gained ready new keeps.side none;
-        };
-        kept = λ le. (refl, (enough le).1, (enough le).2);
-        refused = tt;
-        settles = arrived comes old new (holds_arrives old.table.number layout u handles (slots_in old) (slots_in ready) (slots_in new) clear held live comes keeps.sets) none rest (stays_then old ready new stays keeps.stays);
-        grows = elim keeps.grows [
-          | inl same ↦ inl (same ∙ long)
-          | inr all ↦ inr all
-        ];
-      }
+-- sets were kept or are on their way, and all have handles
+from_ready :
+    {L P S D : Type 0} {d : Ghosts D L P S} {R : Type 0} (known : L) (layout many : ℕ) (u : Use) (handles : List SetHandle) (old ready new : Store L P S D d) (rest : IsAtRest old)
+    → (result : R) → is_live (frame_of u) true u ≡ true → (many ≤ kept_of layout old → (ready ≡ old) × (side_of new ≡ side_of old) × (length (slots_in new) ≡ length (slots_in old)))
+    → (kept_of layout old < many → AsksAtLast known (many - kept_of layout old) many old ready) → ((q : ℕ) → Clears (slot_at (slots_in old) q) (slot_at (slots_in ready) q))
+    → length (slots_in ready) ≡ length (slots_in old) → KeepsStore old ready → HoldEach ready.table.number layout u handles (slots_in ready) (slots_in new)
+    → ((i : ℕ) → i < length handles → i < kept_of layout ready → is_kept_of layout (slot_at (slots_in ready) (place_at handles i)) ≡ true)
+    → Holds (ComesOf d.meaning known layout) ready new → new.coming.items ≡ [] → Requests known layout many u handles (Ok result) old new
+from_ready {d = d} known layout many u handles old ready new rest result live enough asks clear long stays holds kept_first keeps none =
+    let held = held_stays layout u handles (slots_in ready) (slots_in new) old ready stays holds in
+    let comes = ComesOf d.meaning known layout in
+    record {
+      takes = record {
+        ready = ready;
+        enough = λ le. (enough le).0;
+        asks = asks;
+        kept_first = kept_first;
+        holds = held;
+        side = keeps.side;
+        gained = gained ready new keeps.side none;
+      };
+      kept = λ le. (refl, (enough le).1, (enough le).2);
+      refused = tt;
+      settles = arrived comes old new (holds_arrives old.table.number layout u handles (slots_in old) (slots_in ready) (slots_in new) clear held live comes keeps.sets) none rest (stays_then old ready new stays keeps.stays);
+      grows = grind (arith, common_steps);
+    }
 
-module _ {L P S D : Type 0} {d : Ghosts D L P S} {R : Type 0} (known : L) (layout many : ℕ) (u : Use) (handles : List SetHandle) (old new : Store L P S D d) where
-  -- as many were kept
-  pub from_kept :
-      (result : R) → is_live (frame_of u) true u ≡ true → IsAtRest old → many ≤ kept_of layout old
-      → HoldEach old.table.number layout u handles (slots_in old) (slots_in new)
-      → ((i : ℕ) → i < length handles → is_kept_of layout (slot_at (slots_in old) (place_at handles i)) ≡ true)
-      → length (slots_in new) ≡ length (slots_in old) → Holds NoneComes old new → new.coming.items ≡ old.coming.items
-      → Requests known layout many u handles (Ok result) old new
-  from_kept result live rest enough holds were_kept long keeps coming =
-      let sets = kept_then (ComesOf d.meaning known layout) (slots_in old) (slots_in new) (slots_in new) keeps.sets (λ p x e. inl (e, refl)) in
-      from_ready known layout many u handles old old new rest result live (λ le. (refl, keeps.side, long)) (λ few. absurd (omega arith)) (λ q. same_clears _ _ refl) refl (store_same old) holds (λ i lt some. were_kept i lt)
-      (record { side = keeps.side; sets = sets; grows = keeps.grows; stays = keeps.stays }) (coming ∙ rest.none_coming)
+-- as many were kept
+pub from_kept :
+    {L P S D : Type 0} {d : Ghosts D L P S} {R : Type 0} (known : L) (layout many : ℕ) (u : Use) (handles : List SetHandle) (old new : Store L P S D d)
+    → (result : R) → is_live (frame_of u) true u ≡ true → IsAtRest old → many ≤ kept_of layout old
+    → HoldEach old.table.number layout u handles (slots_in old) (slots_in new)
+    → ((i : ℕ) → i < length handles → is_kept_of layout (slot_at (slots_in old) (place_at handles i)) ≡ true)
+    → length (slots_in new) ≡ length (slots_in old) → Holds NoneComes old new → new.coming.items ≡ old.coming.items
+    → Requests known layout many u handles (Ok result) old new
+from_kept {d = d} known layout many u handles old new result live rest enough holds were_kept long keeps coming =
+    let sets = sets_after NoneComes (ComesOf d.meaning known layout) (slots_in old) (slots_in new) (slots_in new) (λ n x none. absurd none) keeps.sets (λ p x e. inl (e, refl)) in
+    from_ready known layout many u handles old old new rest result live (λ le. (refl, keeps.side, long)) (λ few. absurd (omega arith)) (λ q. same_clears _ _ refl) refl (store_same old) holds (λ i lt some. were_kept i lt)
+    (record { side = keeps.side; sets = sets; grows = keeps.grows; stays = keeps.stays }) (coming ∙ rest.none_coming)
 
 module _ {L P S D : Type 0} {d : Ghosts D L P S} {R : Type 0} (known : L) (layout many : ℕ) (u : Use) (old asked : Store L P S D d) (rest : IsAtRest old) (short : kept_of layout old < many) where
   -- the allocator gave the sets that were missing, and all have handles
@@ -79,3 +104,43 @@ module _ {L P S D : Type 0} {d : Ghosts D L P S} {R : Type 0} (known : L) (layou
     settles = arrived _ old asked (refused_arrives _ known (many - kept_of layout old) many error old asked refused) none rest stays;
     grows = grind (arith, common_steps, cleared_long, unmet_slots);
   }
+
+-- What a request for sets of a layout leaves of a set manager: for `SetManager::allocate_as` and `allocate_into`.
+
+module _ {L P S D : Type 0} {d : Ghosts D L P S} (r : SetManager L P S D d) (layout : LayoutHandle) (known : SetLayout L) (place : ℕ) (at : place ≡ layout.slot.place) (found : layout_at r.layouts layout ≡ Some known) where
+  here : (slot_at (layout_slots r.layouts) place).set ≡ Some known
+  here = layout_here r.layouts layout known place at found
+
+  module _ {R : Type 0} (many : ℕ) (u : Use) (handles : List SetHandle) (new : Store L P S D d) where
+    -- all sets are of their layouts then
+    pub sets_then : (result : Result R AllocationError) → Requests known.layout place many u handles result r.store new → HasSetsOf (layout_slots r.layouts) r.manager new
+    sets_then result requests = sets_settle (ComesOf d.meaning known.layout place) (layout_slots r.layouts) r.manager r.store new requests.settles (λ n x other comes at. grind (arith, common_steps, here, same_Some)) r.sets
+
+    module _ (result : R) (requests : Requests known.layout place many u handles (Ok result) r.store new) where
+      -- kept sets may have gone before
+      clear : (q : ℕ) → Clears (slot_at (slots_in r.store) q) (slot_at (slots_in requests.takes.ready) q)
+      clear q = elim (cases_lt (kept_of place r.store) many) [
+        | inl short ↦ (brought known.layout place many r.store requests.takes.ready short (requests.takes.asks short)).clear q
+        | inr enough ↦ same_clears (slot_at (slots_in r.store) q) (slot_at (slots_in requests.takes.ready) q) (ap (λ s. slot_at (slots_in s) q) (requests.takes.enough enough))
+      ]
+
+      -- the handles, and no other ones, name something else, and the named sets are of the layout
+      pub come_then :
+          is_live r.frame r.is_open u ≡ true → NameEach handles (sets_of r.manager r.frame r.is_open (slots_in r.store)) (sets_of r.manager r.frame r.is_open (slots_in new))
+          × ((i : ℕ) (e : SetHandle) (x : DescriptorSet S) → i < length handles → (sets_of r.manager r.frame r.is_open (slots_in new)).set (slice_index_or handles i e) ≡ Some x → IsOfLayout d.meaning known.layout x.raw)
+      come_then live = (
+        subst (λ n. NameEach handles (sets_of n r.frame r.is_open (slots_in r.store)) (sets_of n r.frame r.is_open (slots_in new))) r.sets.number
+            (are_named r.store.table.number place u handles (slots_in r.store) (slots_in requests.takes.ready) (slots_in new) clear requests.takes.holds r.frame r.is_open live),
+        λ i e x lt is.
+            let same = ap (λ (h : SetHandle). h.place) (get_or_default handles i e (record { manager = 0; place = 0; generation = 0 }) lt) in
+            (sets_then (Ok result) requests).own (slice_index_or handles i e).place x known (found_set r.manager r.frame r.is_open (slots_in new) (slice_index_or handles i e) x is)
+            (ap (λ n. (slot_at (layout_slots r.layouts) n).set) (ap (λ p. (slot_at (slots_in new) p).layout) same
+            ∙ came_layout place u (slot_at (slots_in requests.takes.ready) (place_at handles i)) (slot_at (slots_in new) (place_at handles i)) (requests.takes.holds.comes i lt)) ∙ here),
+      )
+
+  -- a request for one set is refused only if none is kept
+  pub one_refused : {R : Type 0} (u : Use) (handles : List SetHandle) (new : Store L P S D d) (error : AllocationError) → Requests {R = R} known.layout place 1 u handles (Err error) r.store new → IsRefusedAtLast known.layout 1 1 error r.store new
+  one_refused u handles new error requests = elim (cases_lt 0 (kept_of place r.store)) [
+    | inl some ↦ absurd (true≢false (sym (requests.kept (omega arith)).0))
+    | inr none ↦ subst (λ n. IsRefusedAtLast known.layout n 1 error r.store new) (omega arith) requests.refused
+  ]

@@ -1,8 +1,8 @@
-use Rattle.descriptor_manager.proofs.Common.{◌≡◌, ◌<◌, inl, inr, refl, sym, ap, ◌∙◌, subst, arith, false, Settings, is_usable, test_within, layout_slots, seen, removed_in, slots_in}
+use Rattle.descriptor_manager.proofs.Common.{◌≡◌, ◌<◌, inl, inr, refl, sym, ap, ◌∙◌, subst, arith, Settings, is_usable, test_within, layout_slots, seen, slots_in}
 use Rattle.std.specs.Prelude.{OnErr}
 use Rattle.std.proofs.lemmas.Result.{on_err_weaker}
 use Rattle.descriptor_manager.specs.Managers.{NoneFree}
-use Rattle.descriptor_manager.proofs.Numbering.{apart_from, gone, layout_used, number_left, seen_kept, sets_more, sets_over, if_here, if_other}
+use Rattle.descriptor_manager.proofs.Owned.{apart_from, gone, layout_used, number_left, seen_kept, sets_renewed, sets_same}
 use Rattle.descriptor_manager.proofs.manager.SetManager.add_layout.Goals.{in-Some+else-is_usable, in_default}
 use Rattle.descriptor_manager.proofs.manager.SetManager.add_layout.Goals as goal
 
@@ -15,15 +15,8 @@ is_usable-requires-clause-empty g c = number_left _ _ _ _ c.in-Some.ensures.rene
 -- the number of a removed layout has another one
 pub invariant_of-self-clause-sets : goal.invariant_of-self-clause-sets
 invariant_of-self-clause-sets g c =
-    let old = c.args.self.now in
-    let number = c.in-Some.number in
-    let r = c.in-Some.ensures.renews in
-    let s = r.only.settings in
-    sets_more old.store c.renew_layout.new.self number c.in-Some.ensures.contents
-    (λ n ne. (c.renew.ensures.others n ne, ap (λ (s : Settings). s.removed n) s ∙ if_other n number false (removed_in old.store n) ne))
-    (layout_used c.renew.new.self c.renew.result c.args.layout number (sym c.renew.ensures.place) c.renew.ensures.added) r.none
-    (ap (λ (s : Settings). s.removed number) s ∙ if_here number number false (removed_in old.store number) refl)
-    (ap (λ (s : Settings). s.layouts) s ∙ old.sets.numbers ∙ sym c.renew.ensures.long) (ap (λ (s : Settings). s.number) s) old.sets
+    let used = layout_used c.renew.new.self c.renew.result c.args.layout c.in-Some.number (sym c.renew.ensures.place) c.renew.ensures.added in
+    sets_renewed c.args.self.now.store c.renew_layout.new.self c.in-Some.number c.in-Some.ensures.contents c.in-Some.ensures.renews c.renew.ensures.others used c.renew.ensures.long c.args.self.now.sets
 
 pub returns-then-is_usable-clause-given : goal.returns-then-is_usable-clause-given
 returns-then-is_usable-clause-given g c = c.renew.ensures.names.given 0 c.renew.result.slot (omega arith)
@@ -36,21 +29,10 @@ returns-then-is_usable-clause-others g c = λ other ne. c.renew.ensures.names.ot
 
 -- a number whose last handle was given is lost
 pub invariant_of-self-else-is_usable-clause-sets : goal.invariant_of-self-else-is_usable-clause-sets
-invariant_of-self-else-is_usable-clause-sets g c =
-    let old = c.args.self.now in
-    let number = c.in-Some.number in
-    let r = c.in-Some.ensures.renews in
-    let s = r.only.settings in
-    sets_more old.store c.renew_layout.new.self number c.in-Some.ensures.contents
-    (λ n ne. (refl, ap (λ (s : Settings). s.removed n) s ∙ if_other n number false (removed_in old.store n) ne)) (sym c.is_usable.ensures.usable ∙ c.if-is_usable.false) r.none
-    (ap (λ (s : Settings). s.removed number) s ∙ if_here number number false (removed_in old.store number) refl)
-    (ap (λ (s : Settings). s.layouts) s ∙ old.sets.numbers) (ap (λ (s : Settings). s.number) s) old.sets
+invariant_of-self-else-is_usable-clause-sets g c = sets_renewed c.args.self.now.store c.renew_layout.new.self c.in-Some.number c.in-Some.ensures.contents c.in-Some.ensures.renews (λ n ne. refl) (sym c.is_usable.ensures.usable ∙ c.if-is_usable.false) refl c.args.self.now.sets
 
 pub invariant_of-self-in_default-clause-sets : goal.invariant_of-self-in_default-clause-sets
-invariant_of-self-in_default-clause-sets g c =
-    let old = c.args.self.now in
-    let s = (c.renew_layout.ensures.none (gone c.renew_layout.result c.in_default.not-Some)).1.settings in
-    sets_over old.store c.renew_layout.new.self c.renew_layout.ensures.contents (λ n. inl (refl, ap (λ (s : Settings). s.removed n) s)) (ap (λ (s : Settings). s.layouts) s ∙ old.sets.numbers) (ap (λ (s : Settings). s.number) s) old.sets
+invariant_of-self-in_default-clause-sets g c = sets_same c.args.self.now.store c.renew_layout.new.self c.renew_layout.ensures.contents (c.renew_layout.ensures.none (gone c.renew_layout.result c.in_default.not-Some)).1.settings refl c.args.self.now.sets
 
 -- no number is free
 none_free : (g : _) (c : goal.After-add_number g) → NoneFree (layout_slots c.args.self.now.layouts) (slots_in c.args.self.now.store)

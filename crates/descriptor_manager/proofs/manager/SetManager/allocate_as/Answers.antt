@@ -1,6 +1,6 @@
 use Rattle.descriptor_manager.proofs.Common.{◌≡◌, subst, sym, rules, IsRefusedAtLast, handles_in}
 use Rattle.descriptor_manager.proofs.Owned.{if_some, refused_names}
-use Rattle.descriptor_manager.proofs.Requested.{come_then, one_refused, sets_then}
+use Rattle.descriptor_manager.proofs.Requests.{come_then, one_refused, sets_then}
 use Rattle.descriptor_manager.proofs.manager.SetManager.allocate_as.Goals as goal
 
 pub invariant_of-self-2-clause-sets : goal.invariant_of-self-2-clause-sets

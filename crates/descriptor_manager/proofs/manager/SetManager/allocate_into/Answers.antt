@@ -1,6 +1,6 @@
 use Rattle.descriptor_manager.proofs.Common.{common_steps, length, refl, inl, sym, arith, Held, count_few}
 use Rattle.descriptor_manager.proofs.Owned.{if_some, refused_names}
-use Rattle.descriptor_manager.proofs.Requested.{come_then, sets_then}
+use Rattle.descriptor_manager.proofs.Requests.{come_then, sets_then}
 use Rattle.descriptor_manager.proofs.manager.SetManager.allocate_into.Goals as goal
 
 pub invariant_of-self-2-clause-sets : goal.invariant_of-self-2-clause-sets

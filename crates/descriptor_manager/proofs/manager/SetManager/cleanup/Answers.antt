@@ -1,8 +1,8 @@
 use Rattle.descriptor_manager.proofs.Common.{rules, slots_in}
 use Rattle.descriptor_manager.proofs.Owned.{sets_stay}
-use Rattle.descriptor_manager.proofs.Showing.{cleaned_names}
+use Rattle.descriptor_manager.proofs.Naming.{cleaned_names}
 use Rattle.descriptor_manager.proofs.Arriving.{none_left}
-use Rattle.descriptor_manager.proofs.Remaining.{cleaned_empty}
+use Rattle.descriptor_manager.proofs.Back.{cleaned_empty}
 use Rattle.descriptor_manager.proofs.manager.SetManager.cleanup.Goals as goal
 
 pub invariant_of-self-clause-sets : goal.invariant_of-self-clause-sets

@@ -1,6 +1,6 @@
 use Rattle.descriptor_manager.proofs.Common.{rules}
 use Rattle.descriptor_manager.proofs.Owned.{sets_stay}
-use Rattle.descriptor_manager.proofs.Showing.{back_names}
+use Rattle.descriptor_manager.proofs.Naming.{back_names}
 use Rattle.descriptor_manager.proofs.manager.SetManager.frame_done.Goals as goal
 
 pub invariant_of-self-clause-sets : goal.invariant_of-self-clause-sets

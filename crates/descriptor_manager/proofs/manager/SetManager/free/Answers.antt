@@ -1,6 +1,6 @@
 use Rattle.descriptor_manager.proofs.Common.{refl, subst, ◌∙◌, AreHeldOnce, seen, removed_in, slots_in}
 use Rattle.descriptor_manager.proofs.Owned.{only_store, sets_stay}
-use Rattle.descriptor_manager.proofs.Showing.{back_quiet, lost_names}
+use Rattle.descriptor_manager.proofs.Naming.{back_quiet, lost_names}
 use Rattle.descriptor_manager.proofs.manager.SetManager.free.Goals as goal
 
 pub invariant_of-self-clause-sets : goal.invariant_of-self-clause-sets

@@ -1,6 +1,6 @@
 use Rattle.descriptor_manager.proofs.Common.{refl, subst, ◌∙◌, rules, AreHeldOnce, seen, slots_in}
 use Rattle.descriptor_manager.proofs.Owned.{only_store, sets_stay}
-use Rattle.descriptor_manager.proofs.Showing.{lost_names}
+use Rattle.descriptor_manager.proofs.Naming.{lost_names}
 use Rattle.descriptor_manager.proofs.manager.SetManager.free_after.Goals.{Else-not-wait_each}
 use Rattle.descriptor_manager.proofs.manager.SetManager.free_after.Goals as goal
 

@@ -1,24 +1,15 @@
-use Rattle.descriptor_manager.proofs.Common.{common_steps, ◌≡◌, ◌≢◌, ℕ, true, is_some, inl, inr, refl, sym, ap, ◌∙◌, arith, rules, [], Some, length, length-set, SetLayout, cases_eq, Slot, slot_at, Settings, vacated, none_count, names_kept, other_slots, slot_set, test_within, layout_slots}
+use Rattle.descriptor_manager.proofs.Common.{common_steps, ◌≡◌, ◌≢◌, true, is_some, inl, inr, refl, sym, ap, ◌∙◌, arith, rules, [], length, length-set, SetLayout, cases_eq, Slot, slot_at, Settings, vacated, none_count, names_kept, other_slots, slot_set, test_within, layout_slots}
 use Rattle.descriptor_manager.proofs.Common.{layouts_by, NoneComes, removed_in, side_of, slots_in, seen}
 use Rattle.std.proofs.lemmas.List.Elements.{All-cons, All-nil}
 use Rattle.descriptor_manager.proofs.Back.{kept_out}
-use Rattle.descriptor_manager.proofs.Naming.{kept_as}
-use Rattle.descriptor_manager.proofs.Showing.{quiet_shown, turned}
-use Rattle.descriptor_manager.proofs.Owned.{layout_here, sets_as}
+use Rattle.descriptor_manager.proofs.Naming.{kept_as, quiet_shown, turned}
+use Rattle.descriptor_manager.proofs.Owned.{layout_here, sets_as, if_here, if_other}
 use Rattle.descriptor_manager.proofs.manager.SetManager.remove_layout.Goals.{After-place}
-use Rattle.descriptor_manager.proofs.Numbering.{if_here, if_other}
 use Rattle.descriptor_manager.proofs.manager.SetManager.remove_layout.Goals as goal
 
--- the layout is there
-here : (g : _) (c : After-place g) → (slot_at (layout_slots c.args.self.now.layouts) c.place.result).set ≡ Some c.in-Some.removed
-here g c = layout_here c.args.self.now.layouts c.args.layout c.in-Some.removed c.place.result c.place.ensures (sym c.in-Some.ensures.layout)
-
--- and leaves its slot
+-- the layout is there, and leaves its slot
 gone : (g : _) (c : After-place g) → slot_at (layout_slots c.remove.new.self) c.place.result ≡ vacated (slot_at (layout_slots c.args.self.now.layouts) c.place.result)
-gone g c = let within = test_within (λ s. is_some s.set) (layout_slots c.args.self.now.layouts) c.place.result refl (ap is_some (here g c)) in grind (arith, common_steps, slot_set)
-
-others : (g : _) (c : After-place g) (n : ℕ) → n ≢ c.place.result → slot_at (layout_slots c.remove.new.self) n ≡ slot_at (layout_slots c.args.self.now.layouts) n
-others g c n ne = grind (arith, common_steps, other_slots)
+gone g c = let within = test_within (λ s. is_some s.set) (layout_slots c.args.self.now.layouts) c.place.result refl (ap is_some (layout_here c.args.self.now.layouts c.args.layout c.in-Some.removed c.place.result c.place.ensures (sym c.in-Some.ensures.layout))) in grind (arith, common_steps, slot_set)
 
 pub invariant_of-self-clause-sets : goal.invariant_of-self-clause-sets
 invariant_of-self-clause-sets g c =
@@ -30,7 +21,7 @@ invariant_of-self-clause-sets g c =
     sets_as NoneComes (layout_slots old.layouts) (layout_slots c.remove.new.self) old.manager old.store c.remove_layout.new.self settles.sets settles.rest (λ n x known none at. absurd none)
     (λ n. elim (cases_eq n place) [
       | inl e ↦ inr (inr (ap (λ (s : Settings). s.removed n) s ∙ if_here n place true (removed_in old.store n) e, ap (λ n. (slot_at (layout_slots c.remove.new.self) n).set) e ∙ ap (λ (s : Slot (SetLayout _)). s.set) (gone g d)))
-      | inr ne ↦ inl (others g d n ne, ap (λ (s : Settings). s.removed n) s ∙ if_other n place true (removed_in old.store n) ne)
+      | inr ne ↦ inl (grind (arith, common_steps, other_slots), ap (λ (s : Settings). s.removed n) s ∙ if_other n place true (removed_in old.store n) ne)
     ])
     (ap (λ (s : Settings). s.layouts) s ∙ old.sets.numbers ∙ sym (ap length (c.in-Some.ensures.slots refl) ∙ length-set _ _ _)) (ap (λ (s : Settings). s.number) s) old.sets
 

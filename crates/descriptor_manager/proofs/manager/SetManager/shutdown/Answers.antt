@@ -1,7 +1,6 @@
 use Rattle.descriptor_manager.proofs.Common.{ap, ◌∙◌, true, Rendering, waits_for, is_held_use}
 use Rattle.descriptor_manager.specs.Managers.{slots_of}
-use Rattle.descriptor_manager.proofs.Back.{left_none}
-use Rattle.descriptor_manager.proofs.Remaining.{none_used}
+use Rattle.descriptor_manager.proofs.Back.{left_none, none_used}
 use Rattle.descriptor_manager.proofs.manager.SetManager.shutdown.Goals as goal
 
 pub returns : goal.returns

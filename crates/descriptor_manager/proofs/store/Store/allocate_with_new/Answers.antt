@@ -1,9 +1,6 @@
-use Rattle.descriptor_manager.proofs.Common.{◌≡◌, ℕ, ◌<◌, ◌++◌, ◌∙◌, true, length, refl, sym, ap, subst, arith, rules, get_or_append_left, length-append, AreOfLayout, passed, is_kept_of, slot_at, place_at, SetHandle, Held, handles_both, handles_long, ComesOf, HoldEach, kept_of, slots_in}
-use Rattle.descriptor_manager.proofs.Bringing.{Brings, brought}
-use Rattle.descriptor_manager.proofs.Fitting.{fit_both}
-use Rattle.descriptor_manager.proofs.Growing.{grow_more}
-use Rattle.descriptor_manager.proofs.Joining.{held_stays, joined, kept_then, layout_stays, stays_then}
-use Rattle.descriptor_manager.proofs.Requests.{from_asked, from_refused}
+use Rattle.descriptor_manager.proofs.Common.{◌≡◌, ℕ, ◌<◌, ◌++◌, ◌∙◌, true, length, refl, sym, ap, subst, arith, rules, get_or_append_left, length-append, AreOfLayout, passed, is_kept_of, slot_at, place_at, SetHandle, Held, handles_both, handles_long, ComesOf, HoldEach, NoneComes, kept_of, slots_in}
+use Rattle.descriptor_manager.proofs.Requests.{Brings, brought, from_asked, from_refused}
+use Rattle.descriptor_manager.proofs.Joining.{held_stays, holds_after, joined, layout_stays, stays_then, fit_both}
 use Rattle.descriptor_manager.proofs.store.Store.allocate_with_new.Goals.{After-hold_coming}
 use Rattle.descriptor_manager.proofs.store.Store.allocate_with_new.Goals as goal
 
@@ -45,12 +42,7 @@ returns-clause-requests g c =
     let came = c.hold_coming.ensures.keeps c.args.known.now.layout (subst (AreOfLayout g.D.DescriptorDevice.meaning c.args.known.now.layout) (sym c.hold_kept.ensures.coming) (brings g a).own) in
     from_asked _ _ _ _ _ c.bring.new.self c.requires.can.rest c.requires.short _ _ _ refl c.bring.ensures.stays c.in_ok-bring.ensures.asks
     (all_held g a) (first g a)
-    (record {
-      side = came.side ∙ kept.side;
-      sets = kept_then (ComesOf g.D.DescriptorDevice.meaning c.args.known.now.layout c.args.layout) _ _ _ kept.sets came.sets;
-      grows = grow_more _ _ _ _ _ _ _ refl kept.grows came.grows c.hold_coming.ensures.holds;
-      stays = stays_then _ _ _ kept.stays came.stays;
-    })
+    (holds_after NoneComes (ComesOf g.D.DescriptorDevice.meaning c.args.known.now.layout c.args.layout) _ _ _ _ _ _ _ (λ n x none. absurd none) refl c.hold_coming.ensures.holds kept came)
     c.hold_coming.ensures.none
 
 pub returns-clause-fit : goal.returns-clause-fit

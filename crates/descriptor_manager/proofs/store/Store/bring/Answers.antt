@@ -6,15 +6,14 @@ use Rattle.descriptor_manager.proofs.store.Store.bring.Goals as goal
 
 -- A request over memory that the table reserved before it, which changed nothing else, and what a refusal and a cleanup leave.
 
-module _ {L P S D : Type 0} {d : Ghosts D L P S} where
-  module _ (layout : L) (old mid new : Store L P S D d) (same : KeepsContents old mid) where
-    -- the allocator refused
-    refused_from : (many : ℕ) (error : AllocationError) → IsRefused layout many error mid new → IsRefused layout many error old new
-    refused_from many error refused = grind (arith, common_steps)
+module _ {L P S D : Type 0} {d : Ghosts D L P S} (layout : L) (old mid new : Store L P S D d) (same : KeepsContents old mid) where
+  -- the allocator refused
+  refused_from : (many : ℕ) (error : AllocationError) → IsRefused layout many error mid new → IsRefused layout many error old new
+  refused_from many error refused = grind (arith, common_steps)
 
-    -- so many sets are on their way
-    asks_from : (many : ℕ) → Asks layout many mid new → Asks layout many old new
-    asks_from many asks = grind (arith, common_steps)
+  -- so many sets are on their way
+  asks_from : (many : ℕ) → Asks layout many mid new → Asks layout many old new
+  asks_from many asks = grind (arith, common_steps)
 
 -- a refusal, and a cleanup
 cleaned_up : (g : _) (c : After-cleanup g) → IsCleared c.args.known.now.layout (c.args.many - kept_of c.args.layout c.args.self.now) c.args.many c.args.self.now c.cleanup.new.self

@@ -1,8 +1,7 @@
 use Rattle.descriptor_manager.proofs.Common.{rules, is_due, removed_of, slots_of, vacated, IsBack, Turns, due_full}
 use Rattle.descriptor_manager.proofs.Given.{accounted_as, exact_as}
 use Rattle.descriptor_manager.proofs.Back.{came_back, turned_sets}
-use Rattle.descriptor_manager.proofs.Following.{follow_turns, follows_back, none_goes}
-use Rattle.descriptor_manager.proofs.Arriving.{arrived}
+use Rattle.descriptor_manager.proofs.Arriving.{follow_turns, follows_back, none_goes, arrived}
 use Rattle.descriptor_manager.proofs.store.Store.finish.Goals.{After-give, After-settle_due}
 use Rattle.descriptor_manager.proofs.store.Store.finish.Goals as goal
 

@@ -1,7 +1,5 @@
 use Rattle.descriptor_manager.proofs.Common.{common_steps, ◌∙◌, subst, arith, length-set, take_all, AllFit, ComesOf, slots_in}
-use Rattle.descriptor_manager.proofs.Fitting.{one_more}
-use Rattle.descriptor_manager.proofs.Growing.{grow_more}
-use Rattle.descriptor_manager.proofs.Joining.{held_start, held_stays, layout_stays, sets_then, stays_then, store_same}
+use Rattle.descriptor_manager.proofs.Joining.{held_start, holds_after, held_stays, layout_stays, stays_then, store_same, one_more}
 use Rattle.descriptor_manager.proofs.store.Store.hold_coming.Goals as goal
 
 pub loop-index-init : goal.loop-index-init
@@ -27,15 +25,7 @@ loop-index-preserved g c =
       own = λ known own. now.own known (was.own known own);
       table = now.table;
       stays = stays_then _ _ _ was.stays now.stays;
-      keeps = λ known own.
-          let before = was.keeps known own in
-          let here = now.keeps known (was.own known own) in
-          record {
-            side = here.side ∙ before.side;
-            sets = sets_then (ComesOf g.D.DescriptorDevice.meaning known c.args.layout) _ _ _ before.sets here.sets;
-            grows = grow_more _ _ _ _ _ _ _ c.requires.live before.grows here.grows now.holds;
-            stays = stays_then _ _ _ before.stays here.stays;
-          };
+      keeps = λ known own. holds_after (ComesOf g.D.DescriptorDevice.meaning known c.args.layout) _ _ _ _ _ _ _ _ (λ n x come. come) c.requires.live now.holds (was.keeps known own) (now.keeps known (was.own known own));
     }
 
 pub returns-clause-fit : goal.returns-clause-fit

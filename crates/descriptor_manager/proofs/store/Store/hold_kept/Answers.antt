@@ -1,7 +1,5 @@
 use Rattle.descriptor_manager.proofs.Common.{common_steps, ◌≡◌, ℕ, ◌+◌, ◌<◌, ◌∙◌, [], ◌∷◌, true, refl, sym, subst, arith, length-set, take_all, AllFit, is_kept_of, slot_at, place_at, handles_long, handles_written, NoneComes, slots_in}
-use Rattle.descriptor_manager.proofs.Fitting.{one_more}
-use Rattle.descriptor_manager.proofs.Growing.{grow_more}
-use Rattle.descriptor_manager.proofs.Joining.{held_start, held_stays, kept_then, stays_then, store_same, were_kept}
+use Rattle.descriptor_manager.proofs.Joining.{held_start, holds_after, held_stays, store_same, were_kept, one_more}
 use Rattle.descriptor_manager.proofs.store.Store.hold_kept.Goals as goal
 
 pub loop-index-init : goal.loop-index-init
@@ -28,12 +26,7 @@ loop-index-preserved g c =
       as_many = now.as_many ∙ was.as_many;
       table = λ n room. now.table n (was.table n room);
       coming = now.coming ∙ was.coming;
-      keeps = record {
-        side = now.keeps.side ∙ was.keeps.side;
-        sets = kept_then NoneComes (slots_in s) (slots_in c.loop-index.self) (slots_in c.hold_next.new.self) was.keeps.sets now.keeps.sets;
-        grows = grow_more c.loop-index.self.table.number c.args.layout c.args.used (handle ∷ []) (slots_in s) (slots_in c.loop-index.self) (slots_in c.hold_next.new.self) c.requires.live was.keeps.grows now.keeps.grows now.holds;
-        stays = stays_then s c.loop-index.self c.hold_next.new.self was.keeps.stays now.keeps.stays;
-      };
+      keeps = holds_after NoneComes NoneComes _ _ _ _ _ _ _ (λ n x none. none) c.requires.live now.holds was.keeps now.keeps;
     }
 
 pub returns-clause-fit : goal.returns-clause-fit

@@ -1,8 +1,7 @@
 use Rattle.descriptor_manager.proofs.Common.{◌≡◌, ◌+◌, ◌∙◌, [], ◌∷◌, Option, length, slice_index_or, refl, ap, subst, arith, rules, get_or_append_left, get_or_push, length-append, items_of, count_of, IsOfLayout, count_parts, sets_in, HasRoom, renewed, slots_of, live_no_list, ComesOf}
 use Rattle.descriptor_manager.proofs.Adding.{added_here}
 use Rattle.descriptor_manager.proofs.Given.{put_count, put_many, renewed_sets}
-use Rattle.descriptor_manager.proofs.Growing.{grow_new}
-use Rattle.descriptor_manager.proofs.Handing.{new_comes, new_one}
+use Rattle.descriptor_manager.proofs.Handing.{grow_new, new_comes, new_one}
 use Rattle.descriptor_manager.proofs.store.Store.hold_last.Goals.{After-put}
 use Rattle.descriptor_manager.proofs.store.Store.hold_last.Goals as goal
 

@@ -1,18 +1,14 @@
-use Rattle.descriptor_manager.proofs.Common.{common_steps, ◌≡◌, ◌<◌, length, refl, ap, ◌∙◌, rules, arith, length-set, is_kept_of, slot_at, renewed, slots_of, SetHandle, test_within, room_stays, slots_in}
+use Rattle.descriptor_manager.proofs.Common.{common_steps, ◌≡◌, ◌<◌, length, refl, ap, ◌∙◌, rules, arith, length-set, is_kept_of, slot_at, renewed, slots_of, test_within, room_stays, slots_in}
 use Rattle.descriptor_manager.proofs.Given.{accounted_as, exact_as, renewed_sets}
 use Rattle.descriptor_manager.proofs.Handing.{kept_fewer, kept_one, usable_stays}
-use Rattle.descriptor_manager.proofs.store.Store.hold_next.Given.{Over}
 use Rattle.descriptor_manager.proofs.store.Store.hold_next.Goals as goal
 use Rattle.descriptor_manager.proofs.store.Store.hold_next.Goals.{After-hold_kept}
 
-abbrev handle : (g : Over) (c : After-hold_kept g) → SetHandle
-handle g c = g.N.SetName.handle_of c.hold_kept.result
+within : (g : _) (c : After-hold_kept g) → (g.N.SetName.handle_of c.hold_kept.result).place < length (slots_in c.args.self.now)
+within g c = test_within (is_kept_of c.args.layout) (slots_in c.args.self.now) (g.N.SetName.handle_of c.hold_kept.result).place refl c.hold_kept.ensures.kept
 
-within : (g : Over) (c : After-hold_kept g) → (handle g c).place < length (slots_in c.args.self.now)
-within g c = test_within (is_kept_of c.args.layout) (slots_in c.args.self.now) (handle g c).place refl c.hold_kept.ensures.kept
-
-long : (g : Over) (c : After-hold_kept g) → length (slots_of c.hold_kept.new.self) ≡ length (slots_in c.args.self.now)
-long g c = (let old = slots_in c.args.self.now in ap length c.hold_kept.ensures.renews.slots ∙ length-set old (handle g c).place (renewed c.args.used (slot_at old (handle g c).place)))
+long : (g : _) (c : After-hold_kept g) → length (slots_of c.hold_kept.new.self) ≡ length (slots_in c.args.self.now)
+long g c = (let old = slots_in c.args.self.now in ap length c.hold_kept.ensures.renews.slots ∙ length-set old (g.N.SetName.handle_of c.hold_kept.result).place (renewed c.args.used (slot_at old (g.N.SetName.handle_of c.hold_kept.result).place)))
 
 pub invariant_of-self : goal.invariant_of-self
 invariant_of-self g c =

@@ -1,4 +1,4 @@
-use Rattle.descriptor_manager.proofs.Common.{common_steps, ◌≡◌, [], ◌∙◌, map, ap, arith, items_of, named_row, state_of, count_of, books_of, sets_in, slot_at, is_placed}
+use Rattle.descriptor_manager.proofs.Common.{◌≡◌, [], ◌∙◌, map, ap, arith, items_of, named_row, state_of, count_of, books_of, sets_in}
 use Rattle.gpu_descriptor.specs.Caller.Others.{others_of}
 use Rattle.gpu_descriptor.proofs.release.Places.{none_out}
 use Rattle.descriptor_manager.proofs.store.Store.new.Goals as goal
@@ -19,15 +19,9 @@ invariant_of-result-clause-exact g c = λ t.
     let coming = ap (λ l. count_of t (items_of d.meaning.set_name l)) c.new-2.ensures.items in
     omega arith
 
-pub invariant_of-result-clause-accounted : goal.invariant_of-result-clause-accounted
-invariant_of-result-clause-accounted g c = grind (arith, common_steps)
-
 pub returns-clause-besides : goal.returns-clause-besides
 unfolding others_of
 returns-clause-besides g c =
     let others = others_of g.D.DescriptorDevice.meaning.pool_name in
     let ledger = g.D.DescriptorDevice.ledger c.args.device in
     ap (λ a. others a ledger) c.set_max_pool_descriptors.ensures.value ∙ ap (λ a. others a ledger) c.new-allocator.ensures.value
-
-pub returns-clause-rest : goal.returns-clause-rest
-returns-clause-rest g c = record { none_coming = c.new-2.ensures.items; placed = λ p. ap (λ l. is_placed (slot_at l p)) c.new.ensures.slots }

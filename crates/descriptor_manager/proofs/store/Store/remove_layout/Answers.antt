@@ -1,14 +1,10 @@
-use Rattle.descriptor_manager.proofs.Common.{true, ◌≡◌, ◌∙◌, ap, sym, subst, arith, rules, List, items_of, count_of, DescriptorSet, sets_in, is_kept_of, Settings, Turns, Becomes, removed_as, slots_of, vacated, side_of, slots_in}
+use Rattle.descriptor_manager.proofs.Common.{true, ◌∙◌, ap, sym, subst, arith, rules, List, items_of, count_of, DescriptorSet, sets_in, is_kept_of, Settings, Turns, Becomes, removed_as, slots_of, vacated, side_of, slots_in}
 use Rattle.descriptor_table.specs.Slots as table
 use Rattle.descriptor_manager.proofs.Back.{kept_out}
-use Rattle.descriptor_manager.proofs.Following.{follow_turns, follows_vacated}
+use Rattle.descriptor_manager.proofs.Arriving.{follow_turns, follows_vacated, arrived}
 use Rattle.descriptor_manager.proofs.Joining.{layout_stays}
-use Rattle.descriptor_manager.proofs.Arriving.{arrived}
 use Rattle.descriptor_manager.proofs.store.Store.remove_layout.Goals.{After-remove_layout}
 use Rattle.descriptor_manager.proofs.store.Store.remove_layout.Goals as goal
-
-same_sets : (g : _) (c : After-remove_layout g) → sets_in (slots_of c.remove_layout.new.self) ≡ sets_in (slots_in c.give.new.self)
-same_sets g c = ap (λ v. sets_in (table.slots_in v)) c.remove_layout.ensures.slots
 
 turns : (g : _) (c : After-remove_layout g) → Turns (is_kept_of c.args.layout) (Becomes vacated) (slots_in c.args.self.now) (slots_of c.remove_layout.new.self)
 turns g c = subst (λ v. Turns (is_kept_of c.args.layout) (Becomes vacated) (slots_in c.args.self.now) (table.slots_in v)) (sym c.remove_layout.ensures.slots) c.give.ensures.frees.turns
@@ -32,7 +28,7 @@ returns-clause-removes g c =
           let coming = λ (l : List (DescriptorSet g.row.S.Denot)). count_of t (items_of g.D.DescriptorDevice.meaning.set_name l) in
           let none = ap coming c.give.ensures.coming in
           let back = c.give.ensures.frees.back.returns.back.returned t in
-          let same = ap coming (same_sets g (goal.at.returns-clause-removes g c).After-remove_layout) in
+          let same = ap (λ v. coming (sets_in (table.slots_in v))) c.remove_layout.ensures.slots in
           omega arith
           );
     }

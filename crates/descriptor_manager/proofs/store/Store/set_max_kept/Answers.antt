@@ -2,8 +2,7 @@ use Rattle.descriptor_manager.proofs.Common.{common_steps, ◌∙◌, ◌+◌, a
 use Rattle.descriptor_table.specs.Slots.{slots_in}
 use Rattle.descriptor_manager.proofs.Given.{accounted_as, exact_as}
 use Rattle.descriptor_manager.proofs.Back.{given_kept, left, turned_sets}
-use Rattle.descriptor_manager.proofs.Following.{follow_turns, follows_vacated, none_goes}
-use Rattle.descriptor_manager.proofs.Arriving.{arrived, same_arrives}
+use Rattle.descriptor_manager.proofs.Arriving.{follow_turns, follows_vacated, none_goes, arrived, same_arrives}
 use Rattle.descriptor_manager.proofs.store.Store.set_max_kept.Goals.{After-give, After-set_max_kept}
 use Rattle.descriptor_manager.proofs.store.Store.set_max_kept.Goals as goal
 

@@ -1,8 +1,7 @@
 use Rattle.descriptor_manager.proofs.Common.{rules}
 use Rattle.descriptor_manager.proofs.Given.{accounted_as, exact_as}
-use Rattle.descriptor_manager.proofs.Following.{follow_any, follows_waits}
-use Rattle.descriptor_manager.proofs.Listed.{any_sets}
-use Rattle.descriptor_manager.proofs.Arriving.{arrived}
+use Rattle.descriptor_manager.proofs.Arriving.{follow_any, follows_waits, arrived}
+use Rattle.descriptor_manager.proofs.Back.{any_sets}
 use Rattle.descriptor_manager.proofs.store.Store.wait_each.Goals as goal
 
 pub invariant_of-self : goal.invariant_of-self
