@@ -1,5 +1,5 @@
 -- Sets that come into slots, or are taken out of a list; returned sets are counted, and what becomes of all if there are none.
-use Rattle.descriptor_manager.proofs.Common.{◌≡◌, ℕ, zero, suc, ◌+◌, List, [], ◌∷◌, length, set, refl, ap, ◌∙◌, arith, false, Bool, None, true≢false, sym, Ghosts, Meaning, side, item_of, items_of, outstanding_of, state_of, Item, count_of, outstanding, DescriptorSet, count_parts, Allocations}
+use Rattle.descriptor_manager.proofs.Common.{◌≡◌, ℕ, zero, suc, ◌+◌, List, [], ◌∷◌, length, set, refl, ap, ◌∙◌, arith, false, Bool, None, Option, Some, IfSome, true≢false, sym, Ghosts, Meaning, side, item_of, items_of, outstanding_of, state_of, Item, count_of, outstanding, DescriptorSet, count_parts, Allocations}
 use Rattle.descriptor_manager.proofs.Common.{joined, sets_in, Slot, slot_at, Puts, Renews, renewed, Turns, Becomes, slots_of, vacated, SetHandle, Use, GivesNext, tally, tally_length, given_weigh, slots_in, Store}
 use Rattle.std.specs.Iterator.{Yields, YieldsThen}
 use Rattle.gpu_descriptor_types.specs.Ledger.{Ledger}
@@ -43,6 +43,11 @@ module _ {T : Type 0} where
   -- no set comes or leaves if a handle is given, or a slot is picked
   pub renewed_sets : (number p : ℕ) (u : Use) (handle : SetHandle) (old new : List (Slot T)) → Renews number p u handle old new → sets_in new ≡ sets_in old
   renewed_sets number p u handle old new renews = ap sets_in renews.slots ∙ set_sets old p (renewed u (slot_at old p)) refl
+
+  -- nor if a kept set is given to a frame, or none is
+  pub reused_sets : (number : ℕ) (u : Use) (old new : List (Slot T)) (result : Option SetHandle) → IfSome result (λ h. Renews number h.place u h old new) → (result ≡ None → new ≡ old) → sets_in new ≡ sets_in old
+  reused_sets number u old new (Some h) renews none = renewed_sets _ _ _ _ _ _ renews
+  reused_sets number u old new None renews none = ap sets_in (none refl)
 
 -- what was returned, and what is left, is what there was
 pub given_count :

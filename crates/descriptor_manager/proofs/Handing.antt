@@ -1,6 +1,6 @@
--- A set that comes to a use: for `hold_next`, `hold_last`, `LayoutRegistry::add` and `Joining`. `cleared_of`, `unmet_slots` and `refused_arrives`
+-- A set that comes to a use: for `hold_next`, `reuse`, `hold_last`, `LayoutRegistry::add` and `Joining`. `cleared_of`, `unmet_slots` and `refused_arrives`
 -- say what a refusal leaves. `o` is its slot before and `n` after, `p` its place, `u` the use, and `handle` the next one of the slot.
-use Rattle.descriptor_manager.proofs.Common.{common_steps, ◌≡◌, ◌≢◌, ℕ, ◌+◌, ◌<◌, ◌⊎◌, true, List, [], ◌∷◌, length, Some, is_some, sym, ap, subst, ◌∙◌, arith, rules, Ghosts, DescriptorSet, AllocationError, cases_eq, Slot, count, frame_of, is_kept_of, is_live, slot_at, Puts, Renews, is_usable, renewed, SetHandle, Use, lists_apart}
+use Rattle.descriptor_manager.proofs.Common.{common_steps, ◌≡◌, ◌≢◌, ℕ, ◌+◌, ◌<◌, ◌⊎◌, true, List, [], ◌∷◌, length, length-set, test_within, Some, is_some, refl, sym, ap, subst, ◌∙◌, arith, rules, Ghosts, DescriptorSet, AllocationError, cases_eq, Slot, count, frame_of, is_kept_of, is_live, slot_at, Puts, Renews, is_usable, renewed, SetHandle, Use, lists_apart}
 use Rattle.descriptor_manager.proofs.Common.{live_no_list, bit, count_set, same_count, other_slots, slot_set, kept_is, AreCleaned, ComesInto, HoldEach, IsCleared, IsRefusedAtLast, IsUnmet, slots_in, Store, false, inl, inr, AreAllUsed, Grows, named_or}
 use Rattle.descriptor_manager.proofs.Arriving.{Arrives, arrives_then, clears, clears_arrives, same_arrives}
 use Rattle.descriptor_manager.proofs.Naming.{is_free, kept_as, next_of}
@@ -25,10 +25,6 @@ module _ {T : Type 0} (number p : ℕ) (u : Use) (handle : SetHandle) where
   one : (layout : ℕ) (old new : List (Slot T)) → handle ≡ next_of number p (slot_at old p) → ComesInto layout u (slot_at old p) (slot_at new p) → ((q : ℕ) → q ≢ p → slot_at new q ≡ slot_at old q) → HoldEach number layout u (handle ∷ []) old new
   one layout old new is came others = search (rules, next_of)
 
-  -- a kept set of the layout came to the use
-  pub kept_one : (layout : ℕ) (old new : List (Slot T)) → is_kept_of layout (slot_at old p) ≡ true → p < length old → Renews number p u handle old new → HoldEach number layout u (handle ∷ []) old new
-  kept_one layout old new was within renews = search (rules, one, other_slots, slot_set)
-
   -- a set of the layout that was put into a slot did
   pub new_one : (layout : ℕ) (x : T) (old put new : List (Slot T)) → Puts layout x p old put → Renews number p u handle put new → HoldEach number layout u (handle ∷ []) old new
   new_one layout x old put new puts renews = search (rules, next_of, one, other_slots, slot_set)
@@ -39,14 +35,25 @@ module _ {T : Type 0} (number p : ℕ) (u : Use) (handle : SetHandle) where
       → (q : ℕ) (y : T) → (slot_at new q).set ≡ Some y → (((slot_at old q).set ≡ Some y) × ((slot_at new q).layout ≡ (slot_at old q).layout)) ⊎ comes (slot_at new q).layout y
   new_comes comes layout x old put new puts renews came q y e = grind (arith, common_steps, cases_eq q p, slot_set put p (renewed u (slot_at put p)) puts.within)
 
-  module _ (layout : ℕ) (old new : List (Slot T)) (was : is_kept_of layout (slot_at old p) ≡ true) (within : p < length old) (live : is_live (frame_of u) true u ≡ true) (renews : Renews number p u handle old new) where
-    -- one kept set fewer
-    pub kept_fewer : count (is_kept_of layout) new + 1 ≡ count (is_kept_of layout) old
-    kept_fewer = search (rules, bit, count_set, live_no_list)
+  -- a kept set of the layout came to the use
+  module _ (layout : ℕ) (old new : List (Slot T)) (was : is_kept_of layout (slot_at old p) ≡ true) (renews : Renews number p u handle old new) where
+    pub within : p < length old
+    within = test_within (is_kept_of layout) old p refl was
 
-    -- as many slots to which another set can come
-    pub usable_stays : count is_usable new ≡ count is_usable old
-    usable_stays = ap (count is_usable) renews.slots ∙ same_count is_usable old p (renewed u (slot_at old p)) within (live_no_list (renewed u (slot_at old p)) live 0 ∙ sym (lists_apart 0 (layout + 2) (slot_at old p) was (λ e. omega arith)))
+    pub kept_one : HoldEach number layout u (handle ∷ []) old new
+    kept_one = search (rules, one, other_slots, slot_set, within)
+
+    pub kept_long : length new ≡ length old
+    kept_long = ap length renews.slots ∙ length-set old p (renewed u (slot_at old p))
+
+    module _ (live : is_live (frame_of u) true u ≡ true) where
+      -- one kept set fewer
+      pub kept_fewer : count (is_kept_of layout) new + 1 ≡ count (is_kept_of layout) old
+      kept_fewer = search (rules, bit, count_set, live_no_list, within)
+
+      -- as many slots to which another set can come
+      pub usable_stays : count is_usable new ≡ count is_usable old
+      usable_stays = ap (count is_usable) renews.slots ∙ same_count is_usable old p (renewed u (slot_at old p)) within (live_no_list (renewed u (slot_at old p)) live 0 ∙ sym (lists_apart 0 (layout + 2) (slot_at old p) was (λ e. omega arith)))
 
 module _ {L P S D : Type 0} {d : Ghosts D L P S} where
   -- after a refusal and a cleanup the kept sets left their slots

@@ -1,12 +1,15 @@
--- Requests that kept sets met, or kept and new ones, or none: for `Store::allocate`, `allocate_new`, `allocate_each` and `allocate_with_new`.
+-- Requests that kept sets met, or kept and new ones, or none: for `Store::reuse`, `allocate`, `allocate_new`, `allocate_each` and `allocate_with_new`.
+use Rattle.std.proofs.Common.{below_more, below_none}
+use Rattle.descriptor_manager.specs.Stores.{Settles}
+use Rattle.descriptor_manager.specs.Managers.{ComeEach, sets_by}
 use Rattle.descriptor_manager.proofs.Common.{common_steps, ◌≡◌, ℕ, ◌+◌, ◌-◌, ◌<◌, List, length, sym, ap, subst, ◌∙◌, arith, true≢false, Ghosts, AreOfLayout, Slot, count, is_kept_of, slot_at, count_none, none_count, AreCleaned, Asks, AsksAtLast, kept_of, slots_in, Store, ◌≤◌, true, [], Ok, Err, inl, refl, inr, Side, items_of, state_of}
-use Rattle.descriptor_manager.proofs.Common.{Allocations, Item, count_of, outstanding, AllocationError, sets_in, frame_of, is_live, place_at, SetHandle, Use, ComesOf, HoldEach, Holds, IsAtRest, IsRefusedAtLast, KeepsStore, NoneComes, Requests, side_of, slice_index_or, Result, Some, IsOfLayout, SetLayout, DescriptorSet, cases_lt}
-use Rattle.descriptor_manager.proofs.Common.{NameEach, sets_of, get_or_default, layout_at, layout_slots, HasSetsOf, LayoutHandle, SetManager, same_Some}
-use Rattle.descriptor_manager.proofs.Arriving.{Clears, clears, none_left, same_clears, arrived}
-use Rattle.descriptor_manager.proofs.Handing.{cleared_long, cleared_of, refused_arrives, unmet_slots, came_layout}
+use Rattle.descriptor_manager.proofs.Common.{Allocations, Item, count_of, outstanding, AllocationError, sets_in, frame_of, is_live, place_at, SetHandle, Use, ComesOf, HoldEach, Holds, IsAtRest, IsRefusedAtLast, KeepsStore, NoneComes, Requests, side_of, slice_index_or, Result, Some, SetLayout, DescriptorSet, cases_lt}
+use Rattle.descriptor_manager.proofs.Common.{◌∷◌, NameEach, sets_of, get_or_default, layout_at, layout_slots, HasSetsOf, LayoutHandle, SetManager, same_Some, Renews, Sets, Option, None, IfSome, is_some}
+use Rattle.descriptor_manager.proofs.Arriving.{Clears, clears, none_left, same_arrives, same_clears, arrived}
+use Rattle.descriptor_manager.proofs.Handing.{came_layout, cleared_long, cleared_of, kept_long, kept_one, refused_arrives, unmet_slots, within}
 use Rattle.descriptor_manager.proofs.Naming.{kept_as}
 use Rattle.descriptor_manager.proofs.Joining.{held_stays, holds_arrives, sets_after, stays_then, store_same, are_named}
-use Rattle.descriptor_manager.proofs.Owned.{found_set, layout_here, sets_settle}
+use Rattle.descriptor_manager.proofs.Owned.{found_set, if_some, layout_here, sets_settle}
 
 -- Sets that were asked for, and are on their way.
 
@@ -81,6 +84,27 @@ from_kept {d = d} known layout many u handles old new result live rest enough ho
     from_ready known layout many u handles old old new rest result live (λ le. (refl, keeps.side, long)) (λ few. absurd (omega arith)) (λ q. same_clears _ _ refl) refl (store_same old) holds (λ i lt some. were_kept i lt)
     (record { side = keeps.side; sets = sets; grows = keeps.grows; stays = keeps.stays }) (coming ∙ rest.none_coming)
 
+-- one set comes, which was kept
+module _ {L P S D : Type 0} {d : Ghosts D L P S} (layout : ℕ) (u : Use) (old new : Store L P S D d) (side : side_of new ≡ side_of old) (stays : KeepsStore old new) where
+  pub kept_holds : (p : ℕ) (handle : SetHandle) → is_kept_of layout (slot_at (slots_in old) p) ≡ true → Renews old.table.number p u handle (slots_in old) (slots_in new) → Holds NoneComes old new
+  kept_holds p handle was renews = record { side = side; sets = λ q x e. grind (arith, common_steps, within _ _ _ _ _ _ _ was renews); grows = inl (kept_long _ _ _ _ _ _ _ was renews); stays = stays }
+
+  -- or none comes, and then nothing changes
+  pub one_or_none :
+      (result : Option SetHandle) → is_live (frame_of u) true u ≡ true → IsAtRest old → new.coming.items ≡ old.coming.items → (is_some result ≡ true → 0 < kept_of layout old) → IfSome result (λ h. is_kept_of layout (slot_at (slots_in old) h.place) ≡ true)
+      → IfSome result (λ h. Renews old.table.number h.place u h (slots_in old) (slots_in new)) → (result ≡ None → slots_in new ≡ slots_in old)
+      → ((known : L) → IfSome result (λ h. Requests known layout 1 u (h ∷ []) (Ok h) old new)) × Settles NoneComes old new × (length (slots_in new) ≡ length (slots_in old))
+  one_or_none (Some h) live rest coming some was renews none =
+      let holds = kept_one _ _ _ _ _ _ _ was renews in
+      let long = kept_long _ _ _ _ _ _ _ was renews in
+      let keeps = kept_holds h.place h was renews in (
+        λ known. from_kept known layout 1 u (h ∷ []) old new h live rest (some refl) holds (below_more _ 0 (below_none _) was) long keeps coming,
+        arrived NoneComes old new (holds_arrives old.table.number layout u (h ∷ []) (slots_in old) (slots_in old) (slots_in new) (λ q. same_clears _ _ refl) holds live NoneComes keeps.sets) (coming ∙ rest.none_coming) rest stays,
+        long,
+      )
+  one_or_none None live rest coming some was renews none =
+      (λ known. tt, arrived NoneComes old new (λ q. same_arrives _ _ _ (ap (λ l. slot_at l q) (none refl))) (coming ∙ rest.none_coming) rest stays, ap length (none refl))
+
 module _ {L P S D : Type 0} {d : Ghosts D L P S} {R : Type 0} (known : L) (layout many : ℕ) (u : Use) (old asked : Store L P S D d) (rest : IsAtRest old) (short : kept_of layout old < many) where
   -- the allocator gave the sets that were missing, and all have handles
   pub from_asked :
@@ -105,7 +129,7 @@ module _ {L P S D : Type 0} {d : Ghosts D L P S} {R : Type 0} (known : L) (layou
     grows = grind (arith, common_steps, cleared_long, unmet_slots);
   }
 
--- What a request for sets of a layout leaves of a set manager: for `SetManager::allocate_as` and `allocate_into`.
+-- What a request for sets of a layout leaves of a set manager: for `SetManager::reuse_for_frame`, `allocate_as` and `allocate_into`.
 
 module _ {L P S D : Type 0} {d : Ghosts D L P S} (r : SetManager L P S D d) (layout : LayoutHandle) (known : SetLayout L) (place : ℕ) (at : place ≡ layout.slot.place) (found : layout_at r.layouts layout ≡ Some known) where
   here : (slot_at (layout_slots r.layouts) place).set ≡ Some known
@@ -124,19 +148,17 @@ module _ {L P S D : Type 0} {d : Ghosts D L P S} (r : SetManager L P S D d) (lay
         | inr enough ↦ same_clears (slot_at (slots_in r.store) q) (slot_at (slots_in requests.takes.ready) q) (ap (λ s. slot_at (slots_in s) q) (requests.takes.enough enough))
       ]
 
-      -- the handles, and no other ones, name something else, and the named sets are of the layout
-      pub come_then :
-          is_live r.frame r.is_open u ≡ true → NameEach handles (sets_of r.manager r.frame r.is_open (slots_in r.store)) (sets_of r.manager r.frame r.is_open (slots_in new))
-          × ((i : ℕ) (e : SetHandle) (x : DescriptorSet S) → i < length handles → (sets_of r.manager r.frame r.is_open (slots_in new)).set (slice_index_or handles i e) ≡ Some x → IsOfLayout d.meaning known.layout x.raw)
-      come_then live = (
-        subst (λ n. NameEach handles (sets_of n r.frame r.is_open (slots_in r.store)) (sets_of n r.frame r.is_open (slots_in new))) r.sets.number
-            (are_named r.store.table.number place u handles (slots_in r.store) (slots_in requests.takes.ready) (slots_in new) clear requests.takes.holds r.frame r.is_open live),
-        λ i e x lt is.
-            let same = ap (λ (h : SetHandle). h.place) (get_or_default handles i e (record { manager = 0; place = 0; generation = 0 }) lt) in
-            (sets_then (Ok result) requests).own (slice_index_or handles i e).place x known (found_set r.manager r.frame r.is_open (slots_in new) (slice_index_or handles i e) x is)
-            (ap (λ n. (slot_at (layout_slots r.layouts) n).set) (ap (λ p. (slot_at (slots_in new) p).layout) same
-            ∙ came_layout place u (slot_at (slots_in requests.takes.ready) (place_at handles i)) (slot_at (slots_in new) (place_at handles i)) (requests.takes.holds.comes i lt)) ∙ here),
-      )
+      -- sets of the layout come under the handles
+      pub come_then : is_live r.frame r.is_open u ≡ true → (m : SetManager L P S D d) → sets_by m ≡ sets_of r.manager r.frame r.is_open (slots_in new) → IfSome (layout_at r.layouts layout) (λ k. ComeEach k.layout handles r m)
+      come_then live m same = if_some _ _ _ (sym found) (record {
+        names = subst (NameEach handles (sets_by r)) (sym same) (subst (λ n. NameEach handles (sets_of n r.frame r.is_open (slots_in r.store)) (sets_of n r.frame r.is_open (slots_in new))) r.sets.number
+            (are_named r.store.table.number place u handles (slots_in r.store) (slots_in requests.takes.ready) (slots_in new) clear requests.takes.holds r.frame r.is_open live));
+        own = λ i e x lt is.
+            let spot = ap (λ (h : SetHandle). h.place) (get_or_default handles i e (record { manager = 0; place = 0; generation = 0 }) lt) in
+            (sets_then (Ok result) requests).own (slice_index_or handles i e).place x known (found_set r.manager r.frame r.is_open (slots_in new) (slice_index_or handles i e) x (ap (λ (s : Sets (DescriptorSet S)). s.set (slice_index_or handles i e)) (sym same) ∙ is))
+            (ap (λ n. (slot_at (layout_slots r.layouts) n).set) (ap (λ p. (slot_at (slots_in new) p).layout) spot
+            ∙ came_layout place u (slot_at (slots_in requests.takes.ready) (place_at handles i)) (slot_at (slots_in new) (place_at handles i)) (requests.takes.holds.comes i lt)) ∙ here);
+      })
 
   -- a request for one set is refused only if none is kept
   pub one_refused : {R : Type 0} (u : Use) (handles : List SetHandle) (new : Store L P S D d) (error : AllocationError) → Requests {R = R} known.layout place 1 u handles (Err error) r.store new → IsRefusedAtLast known.layout 1 1 error r.store new

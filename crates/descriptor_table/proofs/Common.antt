@@ -10,9 +10,10 @@ pub use Rattle.std.specs.List.{last_or}
 pub use Rattle.descriptor_table.specs.Giving.{GivesNext, is_of, list_of}
 pub use Rattle.descriptor_table.specs.Handles.{values_of}
 pub use Rattle.descriptor_table.specs.Lists.{HasList, Relisted, chains_in, layouts_in, removed_in}
-pub use Rattle.descriptor_table.specs.Places.{AreFree, Rises, times, users_at, walk}
+pub use Rattle.std.specs.List.Sorted.{IsNonDecreasingBy}
+pub use Rattle.descriptor_table.specs.Places.{AreFree, times, users_at, walk}
 pub use Rattle.descriptor_table.specs.Sets.{AllFit, AreHeldOnce, LoseNames, is_held, is_last, joined, sets_in, sets_of}
-pub use Rattle.descriptor_table.specs.Slots.{AreCounted, AreLinked, AreSound, IsListed, IsNowhere, IsQueue, Lists, Slot, chain_at, count, filled, frame_at, frame_of, in_list, is_due, is_in, is_kept_of, is_live, is_removed, is_set_of, nexts_in, no_slot, places_in, shown, slot_at, slot_of, slots_in, waits, waits_for}
+pub use Rattle.descriptor_table.specs.Slots.{AreCounted, AreLinked, AreSound, IsListed, IsNowhere, IsQueue, Lists, Slot, chain_at, count, filled, frame_at, frame_of, in_list, is_due, is_in, is_kept_of, is_live, is_removed, is_set_of, last_up_to, nexts_in, no_slot, places_in, shown, slot_at, slot_of, slots_in, waits, waits_for}
 pub use Rattle.descriptor_table.specs.Tables.{AreAllUsed, At, Becomes, Changes, GivesAny, HasLayout, HasRoom, HasTaken, IsBack, MayBecome, Picks, Puts, Settings, Stays, TurnEach, Turns, aged, holds, is_held_use, is_kept, is_usable, layouts_of, may_join, may_stay, next_use, place_at}
 pub use Rattle.descriptor_table.specs.Tables.{removed_as, removed_of, renewed, settings_of, slots_of, stays, used_for, vacated}
 pub use Rattle.descriptor_table.specs.Users.{users_in}

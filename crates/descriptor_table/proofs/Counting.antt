@@ -1,8 +1,9 @@
 -- Lists of places: how often each place is in them, what comes last, where they lead, and along which a number rises. For the lists
 -- of slots, as they are in `Listed` and `Counts`, and for the queue.
 use Rattle.std.specs.Prelude.{⊤}
-use Rattle.std.proofs.lemmas.List.{append-nil, append_assoc}
-use Rattle.descriptor_table.proofs.Common.{◌≡◌, ◌≢◌, ℕ, zero, suc, ◌+◌, ◌<◌, ◌≤◌, List, [], ◌∷◌, ◌++◌, Option, None, Some, inl, inr, length, get_or, set, refl, sym, ap, subst, ◌∙◌, arith, eq-eqb, ne_eqb, rules, get_or-set_other, get_or-set_same, length-set, cases_eq, last_or, times, walk, Rises}
+use Rattle.std.proofs.lemmas.List.{append-nil}
+use Rattle.std.specs.List.{filter}
+use Rattle.descriptor_table.proofs.Common.{if◌then◌else◌, le-leb, lt-leb, nat_le, cases_lt, ◌≡◌, ◌≢◌, ℕ, zero, suc, ◌+◌, ◌<◌, ◌≤◌, List, [], ◌∷◌, ◌++◌, Option, None, Some, inl, inr, length, get_or, set, refl, sym, ap, subst, ◌∙◌, arith, eq-eqb, ne_eqb, rules, get_or-set_other, get_or-set_same, length-set, cases_eq, last_or, times, walk, IsNonDecreasingBy}
 
 pub times_here : (p : ℕ) (l : List ℕ) → times p (p ∷ l) ≡ times p l + 1
 times_here p l = rw (eq-eqb p p refl) (omega arith)
@@ -136,35 +137,79 @@ module _ (next before b after : List ℕ) (first head end : ℕ) (leads : Leads 
       let apart = leads_other (before ++ after) next first end past (omega (arith, few end, last_in end b ends, times_append end before after)) leads in
       leads_join before after (b ++ after) (set next end past) first near head apart at (to_rest past on) (λ p. omega (arith, few p, times_append p b after)) (omega (arith, within, length-set next end past))
 
--- two lists rise together, if no place of the first one has a greater number than one of the second
-pub rises_join : (n : ℕ → ℕ) (l m : List ℕ) → Rises n l → Rises n m → ((p q : ℕ) → times p l ≢ 0 → times q m ≢ 0 → n p ≤ n q) → Rises n (l ++ m)
-rises_join n [] m left right less before after p q is some = right before after p q is some
-rises_join n (x ∷ l) m left right less [] after p q is some = grind (arith, times_append q l m, left [] l x q refl, less x q, times_here x l)
-rises_join n (x ∷ l) m left right less (y ∷ before) after p q is some = rises_join n l m (λ before after p q is. left (x ∷ before) after p q (ap (λ l. x ∷ l) is)) right (λ p q some. less p q (λ none. some (omega (arith, none)))) before after p q (cc is) some
+-- the index of a place in a list, and the place at an index
+index_of : (q : ℕ) (l : List ℕ) → times q l ≢ 0 → (j : ℕ) × (j < length l) × ((d : ℕ) → get_or l j d ≡ q)
+index_of q [] some = absurd (some refl)
+index_of q (x ∷ l) some = elim (cases_eq q x) [
+  | inl e ↦ (0, omega arith, λ d. sym e)
+  | inr ne ↦ (let i = index_of q l (λ none. some (times_there q x l ne ∙ none)) in (suc i.0, omega (arith, i.1), i.2))
+]
 
-pub rises_parts : (n : ℕ → ℕ) (l m : List ℕ) → Rises n (l ++ m) → Rises n l × Rises n m
-rises_parts n l m rises = (λ before after p q is some. rises before (after ++ m) p q (ap (λ l. l ++ m) is ∙ append_assoc before (p ∷ after) m) (λ none. some (omega (arith, none, times_append q after m))), λ before after p q is some. rises (l ++ before) after p q (ap (λ m. l ++ m) is ∙ sym (append_assoc l before (p ∷ after))) some)
-
--- the numbers along a list count alone
-pub rises_same : (n n' : ℕ → ℕ) (l : List ℕ) → ((p : ℕ) → times p l ≢ 0 → n' p ≡ n p) → Rises n l → Rises n' l
-rises_same n n' l same rises before after p q is some = grind (arith, rises before after p q is some, same p, same q, times_append p before (p ∷ after), times_append q before (p ∷ after), times_here p after, ap (times p) is, ap (times q) is)
+times_at : (l : List ℕ) (j d : ℕ) → j < length l → times (get_or l j d) l ≢ 0
+times_at [] j d lt = absurd (omega (arith, lt))
+times_at (x ∷ l) zero d lt = λ none. absurd (omega (arith, none, times_here x l))
+times_at (x ∷ l) (suc j) d lt = λ none. times_at l j d (omega (arith, lt)) (omega (arith, none))
 
 -- along a list that rises no number is smaller than the first one, or greater than the last one
-pub rises_first : (n : ℕ → ℕ) (q p : ℕ) (l : List ℕ) → Rises n (q ∷ l) → times p (q ∷ l) ≢ 0 → n q ≤ n p
-rises_first n q p l rises some = grind (arith, cases_eq p q, times_there p q l, rises [] l q p refl)
+pub rises_first : (n : ℕ → ℕ) (q p : ℕ) (l : List ℕ) → IsNonDecreasingBy n (q ∷ l) → times p (q ∷ l) ≢ 0 → n q ≤ n p
+rises_first n q p l rises some = let i = index_of p (q ∷ l) some in subst (λ p. n q ≤ n p) (i.2 0) (rises 0 i.0 0 (omega arith) i.1)
 
-pub rises_last : (n : ℕ → ℕ) (o : Option ℕ) (l : List ℕ) (last p : ℕ) → Rises n l → last_or o l ≡ Some last → times p l ≢ 0 → n p ≤ n last
+rises_rest : (n : ℕ → ℕ) (x : ℕ) (l : List ℕ) → IsNonDecreasingBy n (x ∷ l) → IsNonDecreasingBy n l
+rises_rest n x l rises i j d le lt = rises (suc i) (suc j) d (omega (arith, le)) (omega (arith, lt))
+
+rises_more : (n : ℕ → ℕ) (x : ℕ) (l : List ℕ) → ((q : ℕ) → times q l ≢ 0 → n x ≤ n q) → IsNonDecreasingBy n l → IsNonDecreasingBy n (x ∷ l)
+rises_more n x l less rest zero zero d le lt = omega arith
+rises_more n x l less rest zero (suc j) d le lt = less (get_or l j d) (times_at l j d (omega (arith, lt)))
+rises_more n x l less rest (suc i) zero d le lt = absurd (omega (arith, le))
+rises_more n x l less rest (suc i) (suc j) d le lt = rest i j d (omega (arith, le)) (omega (arith, lt))
+
+-- two lists rise together, if no place of the first one has a greater number than one of the second
+pub rises_join : (n : ℕ → ℕ) (l m : List ℕ) → IsNonDecreasingBy n l → IsNonDecreasingBy n m → ((p q : ℕ) → times p l ≢ 0 → times q m ≢ 0 → n p ≤ n q) → IsNonDecreasingBy n (l ++ m)
+rises_join n [] m left right less = right
+rises_join n (x ∷ l) m left right less = rises_more n x (l ++ m) (λ q some. grind (arith, times_append q l m, rises_first n x q l left, less x q, times_here x l)) (rises_join n l m (rises_rest n x l left) right (λ p q some. less p q (λ none. some (omega (arith, none)))))
+
+pub rises_parts : (n : ℕ → ℕ) (l m : List ℕ) → IsNonDecreasingBy n (l ++ m) → IsNonDecreasingBy n l × IsNonDecreasingBy n m
+rises_parts n [] m rises = (λ i j d le lt. absurd (omega (arith, lt)), rises)
+rises_parts n (x ∷ l) m rises = let parts = rises_parts n l m (rises_rest n x (l ++ m) rises) in (rises_more n x l (λ q some. rises_first n x q (l ++ m) rises (λ none. some (omega (arith, none, times_append q l m)))) parts.0, parts.1)
+
+-- the numbers along a list count alone
+pub rises_same : (n n' : ℕ → ℕ) (l : List ℕ) → ((p : ℕ) → times p l ≢ 0 → n' p ≡ n p) → IsNonDecreasingBy n l → IsNonDecreasingBy n' l
+rises_same n n' l same rises i j d le lt = omega (arith, same (get_or l i d) (times_at l i d (omega (arith, le, lt))), same (get_or l j d) (times_at l j d lt), rises i j d le lt)
+
+pub rises_last : (n : ℕ → ℕ) (o : Option ℕ) (l : List ℕ) (last p : ℕ) → IsNonDecreasingBy n l → last_or o l ≡ Some last → times p l ≢ 0 → n p ≤ n last
 rises_last n o [] last p rises is some = absurd (some refl)
 rises_last n o (q ∷ l) last p rises is some = grind (arith, cases_eq p q, rises_first n q last l rises (last_in last (q ∷ l) is), times_there p q l, rises_last n (Some q) l last p (rises_parts n (q ∷ []) l rises).1 is)
 
 -- the numbers of a list that rises are past this one if the first is
-pub past_first : (n : ℕ → ℕ) (f : ℕ) (l : List ℕ) → Rises n l → ((q : ℕ) (rest : List ℕ) → l ≡ q ∷ rest → f < n q) → (p : ℕ) → times p l ≢ 0 → f < n p
+pub past_first : (n : ℕ → ℕ) (f : ℕ) (l : List ℕ) → IsNonDecreasingBy n l → ((q : ℕ) (rest : List ℕ) → l ≡ q ∷ rest → f < n q) → (p : ℕ) → times p l ≢ 0 → f < n p
 past_first n f [] rises later p some = absurd (some refl)
 past_first n f (q ∷ l) rises later p some = omega (arith, later q l refl, rises_first n q p l rises some)
 
 -- a list whose places have one number comes between smaller and greater ones
-pub rises_between : (n : ℕ → ℕ) (f : ℕ) (before b after : List ℕ) → Rises n (before ++ after) → ((p : ℕ) → times p before ≢ 0 → n p ≤ f) → ((p : ℕ) → times p after ≢ 0 → f < n p) → ((p : ℕ) → times p b ≢ 0 → n p ≡ f) → Rises n (before ++ (b ++ after))
+pub rises_between : (n : ℕ → ℕ) (f : ℕ) (before b after : List ℕ) → IsNonDecreasingBy n (before ++ after) → ((p : ℕ) → times p before ≢ 0 → n p ≤ f) → ((p : ℕ) → times p after ≢ 0 → f < n p) → ((p : ℕ) → times p b ≢ 0 → n p ≡ f) → IsNonDecreasingBy n (before ++ (b ++ after))
 rises_between n f before b after rises early late now =
     let parts = rises_parts n before after rises in
-    let among : Rises n b = rises_same (λ p. f) n b now (λ x y p q is some. omega arith) in
+    let among : IsNonDecreasingBy n b = rises_same (λ p. f) n b now (λ i j d le lt. omega arith) in
     rises_join n before (b ++ after) parts.0 (rises_join n b after among parts.1 (λ p q some there. omega (arith, now p some, late q there))) (λ p q some there. grind (arith, times_append q b after, early p some, now q, late q))
+
+-- a list along which a number rises is cut where the number passes another one: its first part is what passes the test
+pub cut_past : (n : ℕ → ℕ) (f : ℕ) (l : List ℕ) → IsNonDecreasingBy n l → (before after : List ℕ) × (l ≡ before ++ after) × ((p : ℕ) → times p before ≢ 0 → n p ≤ f) × ((p : ℕ) → times p after ≢ 0 → f < n p)
+cut_past n f [] rises = ([], [], refl, λ p some. absurd (some refl), λ p some. absurd (some refl))
+cut_past n f (q ∷ l) rises = elim (cases_lt f (n q)) [
+  | inl late ↦ ([], q ∷ l, refl, λ p some. absurd (some refl), past_first n f (q ∷ l) rises (λ p rest is. subst (λ p. f < n p) (cc is) late))
+  | inr early ↦ (
+      let cut = cut_past n f l (rises_parts n (q ∷ []) l rises).1 in
+      (q ∷ cut.0, cut.1, ap (λ l. q ∷ l) cut.2, λ p some. grind (arith, cases_eq p q, times_there p q cut.0, cut.3 p), cut.4)
+      )
+]
+
+-- what passes the test of two such parts is the first one
+pub passed_cut : (n : ℕ → ℕ) (f : ℕ) (before after : List ℕ) → ((p : ℕ) → times p before ≢ 0 → n p ≤ f) → ((p : ℕ) → times p after ≢ 0 → f < n p) → filter (λ p. nat_le (n p) f) (before ++ after) ≡ before
+passed_cut n f [] [] early late = refl
+passed_cut n f [] (q ∷ l) early late = rw (lt-leb (n q) f (late q (λ none. absurd (omega (arith, none, times_here q l))))) (passed_cut n f [] l early (λ p some. late p (λ none. some (omega (arith, none)))))
+passed_cut n f (q ∷ l) after early late = rw (le-leb (n q) f (early q (λ none. absurd (omega (arith, none, times_here q l))))) (ap (λ l. q ∷ l) (passed_cut n f l after (λ p some. early p (λ none. some (omega (arith, none)))) late))
+
+-- and it is the same by numbers that are the same along the list
+pub passed_same : (n n' : ℕ → ℕ) (f : ℕ) (l : List ℕ) → ((p : ℕ) → times p l ≢ 0 → n' p ≡ n p) → filter (λ p. nat_le (n' p) f) l ≡ filter (λ p. nat_le (n p) f) l
+passed_same n n' f [] same = refl
+passed_same n n' f (q ∷ l) same = (λ i. if nat_le (same q (λ none. absurd (omega (arith, none, times_here q l))) i) f then q ∷ passed_same n n' f l (λ p some. same p (λ none. some (omega (arith, none)))) i else passed_same n n' f l (λ p some. same p (λ none. some (omega (arith, none)))) i)

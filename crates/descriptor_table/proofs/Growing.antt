@@ -1,5 +1,5 @@
 -- The lists of slots, when a slot without a set comes at the end: for `SetTable::add_place`.
-use Rattle.descriptor_table.proofs.Common.{common_steps, ◌≡◌, ℕ, zero, suc, ◌+◌, Bool, true, if◌then◌else◌, List, [], ◌∷◌, ◌++◌, length, get_or, set, refl, sym, ap, ◌∙◌, arith, rules, get_or-append_seam, set-append_seam, get_or_append_left, length_push, cases_eq, times, walk, AreLinked}
+use Rattle.descriptor_table.proofs.Common.{common_steps, ◌≡◌, ℕ, zero, suc, ◌+◌, Bool, true, if◌then◌else◌, List, [], ◌∷◌, ◌++◌, length, get_or, set, refl, sym, ap, ◌∙◌, arith, get_or-append_seam, set-append_seam, get_or_append_left, length_push, cases_eq, times, walk, AreLinked}
 use Rattle.descriptor_table.proofs.Common.{IsListed, IsQueue, Slot, chain_at, count, filled, frame_at, frame_of, is_in, no_slot, slot_at, waits, AreAllUsed, At, Changes, HasRoom, Puts, is_usable, slots_of, used_for, SetTable, Taken, Vacant, Chain}
 use Rattle.descriptor_table.proofs.Chains.{HasLists, taken_no_list, taken_out}
 use Rattle.descriptor_table.proofs.Counting.{rises_same}
@@ -28,7 +28,11 @@ module _ {T : Type 0} where
   linked_grown slots next chains s taken h k q = ap (times q) (walk_grown (chain_at chains k).count next (chain_at chains k).first) ∙ h k q ∙ ap (λ b. if b then 1 else 0) (sym (grown (is_in k) slots s no_slot q (taken_no_list s taken k)))
 
   pub queue_grown : (slots : List (Slot T)) (l : List ℕ) (last : ℕ) (s : Slot T) → s.used ≡ Taken → IsQueue slots l last → IsQueue (slots ++ s ∷ []) l last
-  queue_grown slots l last s taken h = search (rules, taken_out, grown (waits {T = T}), rises_same (frame_at slots) (frame_at (slots ++ s ∷ [])) l (λ q some. grown (λ (s : Slot T). frame_of s.used) slots s no_slot q (ap frame_of taken)))
+  queue_grown slots l last s taken h = record {
+    has = λ p. h.has p ∙ ap (λ b. if b then 1 else 0) (sym (grown waits slots s no_slot p (taken_out s taken)));
+    rises = rises_same (frame_at slots) (frame_at (slots ++ s ∷ [])) l (λ q some. grown (λ (s : Slot T). frame_of s.used) slots s no_slot q (ap frame_of taken)) h.rises;
+    ends = h.ends;
+  }
 
   -- the layout of each slot has its list, also that of the new slot
   pub known_grown : (slots : List (Slot T)) (s : Slot T) (layouts : ℕ) → IsListed layouts s → HasLists slots layouts → length (slots ++ s ∷ []) ≡ length slots + 1 → HasLists (slots ++ s ∷ []) layouts

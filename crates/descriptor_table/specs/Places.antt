@@ -1,5 +1,5 @@
 -- Lists of places, and of the numbers of layouts.
-use Rattle.std.specs.Prelude.{◌≡◌, ◌≢◌, ◌≤◌, ◌++◌, ℕ, zero, suc, ◌+◌, ◌==◌, List, [], ◌∷◌, slice_index, slice_index_or, if◌then◌else◌}
+use Rattle.std.specs.Prelude.{◌≡◌, ℕ, zero, suc, ◌+◌, ◌==◌, List, [], ◌∷◌, slice_index, slice_index_or, if◌then◌else◌}
 
 -- how often a place is in a list
 abbrev pub times : ℕ → List ℕ → ℕ
@@ -10,10 +10,6 @@ times p (q ∷ l) = (if p == q then 1 else 0) + times p l
 abbrev pub walk : ℕ → List ℕ → ℕ → List ℕ
 walk zero next first = []
 walk (suc n) next first = first ∷ walk n next (slice_index next first)
-
--- along a list no place has a greater number than a later one
-abbrev pub Rises : (ℕ → ℕ) → List ℕ → Type 0
-Rises number l = (before after : List ℕ) (p q : ℕ) → l ≡ before ++ p ∷ after → times q after ≢ 0 → number p ≤ number q
 
 -- how many users a layout has, by its number: none is free past the last one
 abbrev pub users_at : List ℕ → ℕ → ℕ

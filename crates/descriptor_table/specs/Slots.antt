@@ -1,7 +1,8 @@
 -- Slots, and the lists that they are in.
 use Rattle.std.specs.Prelude.{map, slice_set, vec_capacity, Option, Some, ◌≡◌, ℕ, ◌+◌, ◌%◌, ◌<◌, ◌≤◌, ◌==◌, ◌&&◌, nat_le, nat_lt, Bool, true, false, List, [], ◌∷◌, length, ⊤, slice_index_or, if◌then◌else◌, None, is_some, not}
-use Rattle.std.specs.List.{last_or}
-use Rattle.descriptor_table.specs.Places.{Rises, times, users_at, walk}
+use Rattle.std.specs.List.{filter, last_or}
+use Rattle.std.specs.List.Sorted.{IsNonDecreasingBy}
+use Rattle.descriptor_table.specs.Places.{times, users_at, walk}
 use Rattle.descriptor_table.specs.declared.slot.Use.{Use}
 use Rattle.descriptor_table.specs.declared.slot.Use.TheVariants.{Held, InFrame, Waits, Kept, Going, Taken, Vacant}
 use Rattle.descriptor_table.specs.declared.slot.State.{State}
@@ -98,6 +99,10 @@ module _ {T : Type 0} where
   abbrev pub filled : ℕ → T → Slot T → Slot T
   filled layout set s = record s { layout = layout; used = Taken; is_aged = false; set = Some set }
 
+  -- the last of these places whose set waits for this frame or an earlier one
+  abbrev pub last_up_to : Slots T → ℕ → List ℕ → Option ℕ
+  last_up_to slots frame places = last_or None (filter (λ p. nat_le (frame_at slots p) frame) places)
+
   -- the slot that an entry stands for. Contracts see slots, so how an entry packs one is proved in the file of SlotList alone
   abbrev pub slot_of : Entry T → Slot T
   slot_of e = record { generation = e.generation; layout = e.list % 2147483648; used = use_of e.frame e.state; is_aged = nat_le 2147483648 e.list; set = e.set }
@@ -151,7 +156,7 @@ module _ {T : Type 0} where
   pub record IsQueue (slots : Slots T) (places : List ℕ) (last : ℕ) : Type 0 where
     pub has : Lists waits slots places
     -- along it no set waits for an earlier frame than the one before it
-    pub rises : Rises (frame_at slots) places
+    pub rises : IsNonDecreasingBy (frame_at slots) places
     pub ends : last_or (Some last) places ≡ Some last
 
   -- the layout of a slot has a list. A held set is there

@@ -279,8 +279,17 @@ impl<L, P, S, D: DescriptorDevice<L, P, S>> SetManager<L, P, S, D> {
     /// was refused; then free sets or memory, call `cleanup` and retry, but not without end:
     /// [`DescriptorAllocator::allocate`](crate::DescriptorAllocator::allocate) has the causes. On each
     /// error the set manager has the live sets that it had.
-    #[inline]
+    // Inlined, so that a frame's loop reuses sets without a call.
+    #[inline(always)]
     pub fn allocate_for_frame(&mut self, layout: LayoutHandle) -> Result<SetHandle, RequestError> {
+        match self.inner.checked().reuse_for_frame(layout) {
+            Some(set) => Ok(set),
+            None => self.allocate_out_of_line(layout),
+        }
+    }
+
+    #[inline(never)]
+    fn allocate_out_of_line(&mut self, layout: LayoutHandle) -> Result<SetHandle, RequestError> {
         self.inner.call(|inner| inner.allocate_for_frame(layout))
     }
 

@@ -18,12 +18,19 @@ impl<T> Guarded<T> {
         }
     }
 
-    /// Makes a call. Panics if an earlier one panicked.
+    /// The value, for a call in which nothing can panic. Panics if an earlier one panicked.
     #[inline]
-    pub(crate) fn call<R>(&mut self, call: impl FnOnce(&mut T) -> R) -> R {
+    pub(crate) fn checked(&mut self) -> &mut T {
         if self.is_poisoned {
             refuse();
         }
+        &mut self.value
+    }
+
+    /// Makes a call. Panics if an earlier one panicked.
+    #[inline]
+    pub(crate) fn call<R>(&mut self, call: impl FnOnce(&mut T) -> R) -> R {
+        self.checked();
         self.is_poisoned = true;
         let result = call(&mut self.value);
         self.is_poisoned = false;

@@ -283,12 +283,15 @@ impl Stage for Rendering {
     fn poisoned() -> Self {
         let device: &'static Device = Box::leak(Box::new(Device::new()));
         let mut it = SetManager::new(device, 0);
-        let layout = unsafe { it.add_layout(layout()) }.unwrap();
-        let held = it.allocate(layout).unwrap();
+        let layouts = [(); 2].map(|()| unsafe { it.add_layout(layout()) }.unwrap());
+        let [layout, other] = layouts;
+        let (held, kept) = (it.allocate(layout).unwrap(), it.allocate(layout).unwrap());
         it.begin_frame().unwrap();
         let drawn = it.allocate_for_frame(layout).unwrap();
+        // A set that could be reused.
+        unsafe { it.free(&[kept]) }.unwrap();
         device.fault.set(Fault::PanicsAtAlloc);
-        let ran = catch_unwind(AssertUnwindSafe(|| it.allocate_for_frame(layout)));
+        let ran = catch_unwind(AssertUnwindSafe(|| it.allocate_for_frame(other)));
         assert!(ran.is_err());
         device.fault.set(Fault::None);
         Rendering {

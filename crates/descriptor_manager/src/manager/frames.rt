@@ -1,8 +1,8 @@
 //! Frames and their sets.
-ghost use Rattle.std.specs.Prelude.{◌≡◌, ℕ, ◌+◌, ◌<◌, ◌^◌, ◌↔◌, ◌⊎◌, [], ◌∷◌, length, max};
+ghost use Rattle.std.specs.Prelude.{◌≡◌, ℕ, ◌+◌, ◌<◌, ◌≤◌, ◌^◌, ◌↔◌, ◌⊎◌, [], ◌∷◌, is_some, length, max};
 ghost use Rattle.std.specs.Prelude.{IfErr, IfOk, IfSome, IsErrOf, IsOk, IsSome, None, OnErr, OnOk};
 ghost use Rattle.std.specs.Prelude.{false, true};
-ghost use Rattle.descriptor_table.specs.Slots.{is_due, slot_at};
+ghost use Rattle.descriptor_table.specs.Slots.{frame_at, is_due, slot_at};
 ghost use Rattle.descriptor_manager.specs.Stores.{FreesSets, IsFreed, IsRefusedAtLast, Takes};
 ghost use Rattle.descriptor_table.specs.Tables.{Turns};
 
@@ -61,6 +61,34 @@ impl<L: Drop, P: Drop, S: Drop, D: DescriptorDevice<L, P, S>> SetManager<L, P, S
         }
         self.frame = self.frame.max(frame);
         Ok(())
+    }
+
+    /// Allocates the set of a layout that was kept last for the open frame, as `allocate_for_frame` does,
+    /// without a call of the device. `None`, and then nothing changes, if no frame is open, the layout's
+    /// handle is invalid, no set of the layout is kept, or a set waits for a frame later than the open one.
+    /// A loop that tries it first, and then `allocate_for_frame`, makes no call for a set that it reuses.
+    #[inline(always)]
+    pub fn reuse_for_frame(&mut self, layout: LayoutHandle) -> Option<SetHandle>
+        ensures reuses { IfSome result (λ handle. IfSome (layout_of self.old layout) (λ known.
+            ComeEach known.layout (handle ∷ []) self.old self.new)) }
+        ensures takes { IfSome result (λ handle. IfSome (layout_of self.old layout) (λ known.
+            Takes known.layout layout.slot.place 1 (Use.InFrame (frame_of self.old)) (handle ∷ [])
+            (store_of self.old) (store_of self.new))) }
+        ensures needs { is_some result ≡ true → (is_open self.old ≡ true)
+            × IsSome (layout_of self.old layout) × (0 < kept_of layout self.old) }
+        ensures meets { is_open self.old ≡ true → IsSome (layout_of self.old layout)
+            → 0 < kept_of layout self.old → ((p : ℕ) → frame_at (slots_of self.old) p
+            ≤ frame_of self.old) → is_some result ≡ true }
+        ensures side { side_of self.new ≡ side_of self.old }
+        ensures long { length (slots_of self.new) ≡ length (slots_of self.old) }
+        ensures rest { OnlySetsChange self.old self.new }
+        ensures none { result ≡ None → seen self.new ≡ seen self.old }
+    {
+        if !self.is_open {
+            return None;
+        }
+        self.layouts.get(layout)?;
+        self.store.reuse(layout.place(), self.frame)
     }
 
     /// Allocates a set of a layout for the open frame: the set of the layout that was kept last, or else

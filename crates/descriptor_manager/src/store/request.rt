@@ -1,5 +1,5 @@
 //! Requests for sets: kept ones, and new ones for those that are missing.
-ghost use Rattle.std.specs.Prelude.{◌≡◌, ◌-◌, ◌<◌, ◌≤◌, [], ◌∷◌, length, true, IfErr, IsOk, OnErr, OnOk, Ok, Err, Result, List};
+ghost use Rattle.std.specs.Prelude.{◌≡◌, ◌-◌, ◌<◌, ◌≤◌, [], ◌∷◌, length, true, IfErr, IfSome, IsOk, OnErr, OnOk, Ok, Err, None, Result, List, is_some, ℕ};
 ghost use Rattle.gpu_descriptor.specs.Caller.SetLayouts.{IsMeant};
 
 use super::Store;
@@ -8,11 +8,11 @@ use gpu_descriptor::{AllocationError, DescriptorDevice, DescriptorSet, SetLayout
 
 impl<L: Drop, P: Drop, S: Drop, D: DescriptorDevice<L, P, S>> Store<L, P, S, D> {
     ghost use Rattle.descriptor_table.specs.Sets.{AllFit};
-    ghost use Rattle.descriptor_table.specs.Slots.{frame_of, is_live};
-    ghost use Rattle.descriptor_table.specs.Tables.{HasRoom};
-    ghost use Rattle.descriptor_manager.specs.Stores.{Asks, AsksAtLast, CanTake, IsRefused};
+    ghost use Rattle.descriptor_table.specs.Slots.{frame_at, frame_of, is_live};
+    ghost use Rattle.descriptor_table.specs.Tables.{HasLayout, HasRoom};
+    ghost use Rattle.descriptor_manager.specs.Stores.{Asks, AsksAtLast, CanTake, IsAtRest, IsRefused};
     ghost use Rattle.descriptor_manager.specs.Stores.{IsRefusedAtLast, KeepsStore, Requests};
-    ghost use Rattle.descriptor_manager.specs.Stores.{handles_in, kept_of, slots_in};
+    ghost use Rattle.descriptor_manager.specs.Stores.{NoneComes, Settles, handles_in, kept_of, side_of, slots_in};
 
     /// Asks the allocator for `many` sets of a layout. The table has room for them.
     fn ask_for(&mut self, known: &SetLayout<L>, many: u32) -> Result<(), AllocationError>
@@ -58,6 +58,25 @@ impl<L: Drop, P: Drop, S: Drop, D: DescriptorDevice<L, P, S>> Store<L, P, S, D> 
                 self.ask_for(known, many)
             }
         }
+    }
+
+    /// Puts the set of a layout that was kept last to use in a frame, if one is kept and no set waits for a
+    /// later frame. `None` otherwise, and then nothing changes. It doesn't call the device.
+    #[inline(always)]
+    pub(crate) fn reuse(&mut self, layout: u32, frame: u64) -> Option<SetHandle>
+        requires rest { IsAtRest self.old }
+        requires layout { HasLayout layout self.old.table }
+        ensures reuses { (known : L) → IfSome result (λ handle. Requests known layout 1
+            (Use.InFrame frame) (handle ∷ []) (Ok handle) self.old self.new) }
+        ensures kept { is_some result ≡ true → 0 < kept_of layout self.old }
+        ensures meets { 0 < kept_of layout self.old → ((p : ℕ) → frame_at (slots_in self.old) p
+            ≤ frame) → is_some result ≡ true }
+        ensures side { side_of self.new ≡ side_of self.old }
+        ensures settles { Settles NoneComes self.old self.new }
+        ensures as_many { length (slots_in self.new) ≡ length (slots_in self.old) }
+        ensures none { result ≡ None → slots_in self.new ≡ slots_in self.old }
+    {
+        self.table.hold_for_frame(layout, frame)
     }
 
     /// Takes a set of a layout for a use: the last one that was kept, or else a new one. An error is one of

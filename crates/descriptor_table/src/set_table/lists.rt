@@ -1,5 +1,5 @@
 //! The lists of slots without a set, of sets that go back to their pools, and of kept sets.
-ghost use Rattle.std.specs.Prelude.{◌≡◌, ◌==◌, ◌+◌, ◌<◌, ◌≤◌, IfSome, IsTrue, is_some, length, true, false, ℕ};
+ghost use Rattle.std.specs.Prelude.{◌≡◌, ◌==◌, ◌+◌, ◌<◌, ◌≤◌, IfSome, IsTrue, None, is_some, length, nat_le, true, false, ℕ};
 
 use super::waiting::enqueue;
 use super::{GROUPS, SetTable};
@@ -10,7 +10,7 @@ use crate::slot::Use;
 impl<T> SetTable<T> {
     ghost use Rattle.descriptor_table.specs.Giving.{is_of, list_of};
     ghost use Rattle.descriptor_table.specs.Lists.{HasList};
-    ghost use Rattle.descriptor_table.specs.Slots.{IsNowhere, chain_at, count, frame_of, goes, is_kept_of, is_live, slot_at};
+    ghost use Rattle.descriptor_table.specs.Slots.{IsNowhere, chain_at, count, frame_at, frame_of, goes, is_kept_of, is_live, last_up_to, nexts_in, places_in, slot_at, waits_for};
     ghost use Rattle.descriptor_table.specs.Tables.{At, Changes, HasLayout, PicksAny, Renews, Stays};
     ghost use Rattle.descriptor_table.specs.Tables.{removed_of, slots_of, used_for};
 
@@ -107,6 +107,56 @@ impl<T> SetTable<T> {
         ensures fits { N.fit result (slot_at (slots_of self.new) (N.handle_of result).place).set ≡ true }
         ensures stays { Stays self.old self.new }
     {
+        let near = self.place_for(used);
+        self.hold_after(layout, used, near)
+    }
+
+    /// Takes a kept set of a layout for a frame, as `hold_kept` does, if one is kept and no set waits for a
+    /// later frame. `None` otherwise, and then nothing changes.
+    #[inline(always)]
+    pub fn hold_for_frame<N: SetName<T>>(&mut self, layout: u32, frame: u64) -> Option<N>
+        requires layout { HasLayout layout self.old }
+        ensures kept { IfSome result (λ name. is_kept_of layout (slot_at (slots_of self.old)
+            (N.handle_of name).place) ≡ true) }
+        ensures some { is_some result ≡ true → 0 < count (is_kept_of layout) (slots_of self.old) }
+        ensures meets { 0 < count (is_kept_of layout) (slots_of self.old) → ((p : ℕ) → frame_at
+            (slots_of self.old) p ≤ frame) → is_some result ≡ true }
+        ensures renews { IfSome result (λ name. Renews self.old.number (N.handle_of name).place
+            (Use.InFrame frame) (N.handle_of name) (slots_of self.old) (slots_of self.new)) }
+        ensures fits { IfSome result (λ name. N.fit name (slot_at (slots_of self.new)
+            (N.handle_of name).place).set ≡ true) }
+        ensures none { result ≡ None → self.new ≡ self.old }
+        ensures stays { Stays self.old self.new }
+    {
+        if self.kept_count(layout) == 0 {
+            return None;
+        }
+        let used = Use::InFrame(frame);
+        if self.waiting.list.count == 0 {
+            return Some(self.hold_after(layout, used, None));
+        }
+        let last = self.waiting.last;
+        if self.slots.frame(last as usize) > frame {
+            return None;
+        }
+        Some(self.hold_after(layout, used, Some(last)))
+    }
+
+    /// Takes a kept set of a layout, puts it to a use under its next handle, and returns its name. If it waits for
+    /// a frame it comes into the queue after `near`.
+    #[inline(always)]
+    fn hold_after<N: SetName<T>>(&mut self, layout: u32, used: Use, near: Option<u32>) -> N
+        requires some { 0 < count (is_kept_of layout) (slots_of self.old) }
+        requires live { is_live (frame_of used) true used ≡ true }
+        requires near { waits_for (λ frame. true) used ≡ true → near ≡ last_up_to (slots_of self.old)
+            (frame_of used) (places_in (nexts_in self.old.slots) self.old.waiting) }
+        ensures kept { is_kept_of layout (slot_at (slots_of self.old) (N.handle_of result).place)
+            ≡ true }
+        ensures renews { Renews self.old.number (N.handle_of result).place used
+            (N.handle_of result) (slots_of self.old) (slots_of self.new) }
+        ensures fits { N.fit result (slot_at (slots_of self.new) (N.handle_of result).place).set ≡ true }
+        ensures stays { Stays self.old self.new }
+    {
         let group = Group::KeptOf(layout as usize);
         let place = self.lists.first(group);
         self.lists.pop(group, self.slots.at(place as usize).next);
@@ -117,7 +167,7 @@ impl<T> SetTable<T> {
             generation,
         };
         let name = N::of(handle, self.slots.at(place as usize).set.as_ref());
-        enqueue(&mut self.slots, &mut self.waiting, place, used);
+        enqueue(&mut self.slots, &mut self.waiting, near, place, used);
         name
     }
 

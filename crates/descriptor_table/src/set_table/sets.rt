@@ -74,6 +74,7 @@ impl<T> SetTable<T> {
         ensures fits { N.fit result (Some set) ≡ true }
         ensures stays { Stays self.old self.new }
     {
+        let near = self.place_for(used);
         let place = self.lists.vacant.first;
         let slot = self.slots.at(place as usize);
         let handle = SetHandle {
@@ -85,7 +86,7 @@ impl<T> SetTable<T> {
         let name = N::of(handle, Some(&set));
         self.slots.fill(place as usize, handle.generation, layout, group, set, used);
         self.users.join(layout as usize);
-        enqueue(&mut self.slots, &mut self.waiting, place, used);
+        enqueue(&mut self.slots, &mut self.waiting, near, place, used);
         name
     }
 

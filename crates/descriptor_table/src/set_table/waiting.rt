@@ -1,8 +1,9 @@
 //! The queue of the sets that wait for a frame.
-ghost use Rattle.std.specs.Prelude.{◌≡◌, ◌≢◌, ℕ, ◌+◌, ◌++◌, ◌<◌, ◌≤◌, ◌↔◌, IfSome, IsFalse, IsTrue, List, None, Some, false, is_some, length, slice_index_or, slice_set, true};
+ghost use Rattle.std.specs.Prelude.{◌≡◌, ◌≢◌, ℕ, ◌+◌, ◌++◌, ◌<◌, ◌≤◌, ◌↔◌, IfSome, IsFalse, IsTrue, List, None, nat_le, Some, false, is_some, length, slice_index_or, slice_set, true};
 ghost use Rattle.std.specs.List.{last_or};
-ghost use Rattle.descriptor_table.specs.Places.{Rises, times};
-ghost use Rattle.descriptor_table.specs.Slots.{IsQueue, Lists, Slot, frame_at, nexts_in, places_in, slot_at, slots_in, space_in, waits};
+ghost use Rattle.std.specs.List.Sorted.{IsNonDecreasingBy};
+ghost use Rattle.descriptor_table.specs.Places.{times};
+ghost use Rattle.descriptor_table.specs.Slots.{IsQueue, Lists, Slot, frame_at, frame_of, last_up_to, waits_for, nexts_in, places_in, slot_at, slots_in, space_in, waits};
 
 use super::SetTable;
 use crate::handle::SetName;
@@ -38,12 +39,9 @@ fn earlier_place<T>(slots: &SlotList<T>, queue: Queue, hint: u32, frame: u64) ->
     requires some { queue.list.count ≢ 0 }
     requires hint { waits (slot_at (slots_in slots.now) hint) ≡ true
         → times hint (places_in (nexts_in slots.now) queue) ≢ 0 }
-    requires rises { Rises (frame_at (slots_in slots.now)) (places_in (nexts_in slots.now) queue) }
+    requires rises { IsNonDecreasingBy (frame_at (slots_in slots.now)) (places_in (nexts_in slots.now) queue) }
     requires ends { last_or (Some queue.last) (places_in (nexts_in slots.now) queue) ≡ Some queue.last }
-    ensures { (before after : List ℕ) × (places_in (nexts_in slots.now) queue ≡ before ++ after)
-        × (last_or None before ≡ result)
-        × ((p : ℕ) → times p before ≢ 0 → frame_at (slots_in slots.now) p ≤ frame)
-        × ((p : ℕ) → times p after ≢ 0 → frame < frame_at (slots_in slots.now) p) }
+    ensures { result ≡ last_up_to (slots_in slots.now) frame (places_in (nexts_in slots.now) queue) }
 {
     let Some(mut near) = due_place(slots, queue, hint, frame) else {
         return None;
@@ -66,13 +64,10 @@ fn earlier_place<T>(slots: &SlotList<T>, queue: Queue, hint: u32, frame: u64) ->
 fn place_before<T>(slots: &SlotList<T>, queue: Queue, hint: u32, frame: u64) -> Option<u32>
     requires hint { waits (slot_at (slots_in slots.now) hint) ≡ true
         → times hint (places_in (nexts_in slots.now) queue) ≢ 0 }
-    requires rises { Rises (frame_at (slots_in slots.now)) (places_in (nexts_in slots.now) queue) }
+    requires rises { IsNonDecreasingBy (frame_at (slots_in slots.now)) (places_in (nexts_in slots.now) queue) }
     requires ends { last_or (Some queue.last) (places_in (nexts_in slots.now) queue) ≡ Some queue.last }
     requires last { queue.list.count ≢ 0 → waits (slot_at (slots_in slots.now) queue.last) ≡ true }
-    ensures { (before after : List ℕ) × (places_in (nexts_in slots.now) queue ≡ before ++ after)
-        × (last_or None before ≡ result)
-        × ((p : ℕ) → times p before ≢ 0 → frame_at (slots_in slots.now) p ≤ frame)
-        × ((p : ℕ) → times p after ≢ 0 → frame < frame_at (slots_in slots.now) p) }
+    ensures { result ≡ last_up_to (slots_in slots.now) frame (places_in (nexts_in slots.now) queue) }
 {
     if queue.list.count == 0 {
         return None;
@@ -87,17 +82,13 @@ fn place_before<T>(slots: &SlotList<T>, queue: Queue, hint: u32, frame: u64) -> 
 /// their own.
 #[inline]
 fn insert<T>(slots: &mut SlotList<T>, queue: &mut Queue, near: Option<u32>, sets: Queue)
-    requires place { (frame : ℕ) × (before after : List ℕ)
-        × (places_in (nexts_in slots.old) queue.old ≡ before ++ after) × (last_or None before ≡ near)
-        × ((p : ℕ) → times p before ≢ 0 → frame_at (slots_in slots.old) p ≤ frame)
-        × ((p : ℕ) → times p after ≢ 0 → frame < frame_at (slots_in slots.old) p)
+    requires place { (frame : ℕ) × (near ≡ last_up_to (slots_in slots.old) frame
+        (places_in (nexts_in slots.old) queue.old))
         × ((p : ℕ) → times p (places_in (nexts_in slots.old) sets) ≢ 0 → frame_at (slots_in slots.old) p ≡ frame) }
     requires few { queue.old.list.count + sets.list.count < 4294967296 }
     requires has { Lists waits (slots_in slots.old) (places_in (nexts_in slots.old) queue.old
         ++ places_in (nexts_in slots.old) sets) }
-    requires there { IfSome near (λ place. place < length (slots_in slots.old)) }
-    requires last { sets.last < length (slots_in slots.old) }
-    requires rises { Rises (frame_at (slots_in slots.old)) (places_in (nexts_in slots.old) queue.old) }
+    requires rises { IsNonDecreasingBy (frame_at (slots_in slots.old)) (places_in (nexts_in slots.old) queue.old) }
     requires ends { last_or (Some queue.old.last) (places_in (nexts_in slots.old) queue.old)
         ≡ Some queue.old.last }
     requires sets { last_or None (places_in (nexts_in slots.old) sets) ≡ Some sets.last }
@@ -127,14 +118,22 @@ fn insert<T>(slots: &mut SlotList<T>, queue: &mut Queue, near: Option<u32>, sets
     queue.list.count += sets.list.count;
 }
 
-/// Puts a slot into the queue whose set came to this use, if a set in it waits for a frame.
+/// Puts a slot into the queue after a place, or first, if its set came to a use in which it waits for a frame.
 #[inline]
-pub(super) fn enqueue<T>(slots: &mut SlotList<T>, queue: &mut Queue, place: u32, used: Use)
+pub(super) fn enqueue<T>(
+    slots: &mut SlotList<T>,
+    queue: &mut Queue,
+    near: Option<u32>,
+    place: u32,
+    used: Use,
+)
     requires within { place < length (slots_in slots.old) }
     requires size { length (slots_in slots.old) < 4294967295 }
     requires came { (old : List (Slot T)) × (s : Slot T) × (slots_in slots.old ≡ slice_set old place s)
         × (s.used ≡ used) × (is_some s.set ≡ true) × (waits (slot_at old place) ≡ false)
-        × IsQueue old (places_in (nexts_in slots.old) queue.old) queue.old.last }
+        × IsQueue old (places_in (nexts_in slots.old) queue.old) queue.old.last
+        × (waits_for (λ frame. true) used ≡ true → near ≡ last_up_to old (frame_of used)
+        (places_in (nexts_in slots.old) queue.old)) }
     ensures queue { IsQueue (slots_in slots.new) (places_in (nexts_in slots.new) queue.new) queue.new.last }
     ensures nexts { (p : ℕ) → waits (slot_at (slots_in slots.old) p) ≡ false → slice_index_or
         (nexts_in slots.new) p 0 ≡ slice_index_or (nexts_in slots.old) p 0 }
@@ -144,7 +143,6 @@ pub(super) fn enqueue<T>(slots: &mut SlotList<T>, queue: &mut Queue, place: u32,
     if !used.waits() {
         return;
     }
-    let near = place_before(slots, *queue, u32::MAX, used.frame());
     let set = Queue {
         list: Chain {
             first: place,
@@ -191,6 +189,18 @@ impl<T> SetTable<T> {
         insert(&mut self.slots, &mut self.waiting, near, sets);
         self.recent[recent] = last;
         true
+    }
+
+    /// The place in the queue after which a set in this use comes, if it waits for a frame. `None` if it comes first.
+    #[inline]
+    pub(super) fn place_for(&self, used: Use) -> Option<u32>
+        ensures { waits_for (λ frame. true) used ≡ true → result ≡ last_up_to (slots_of self.now)
+            (frame_of used) (places_in (nexts_in self.now.slots) self.now.waiting) }
+    {
+        if !used.waits() {
+            return None;
+        }
+        place_before(&self.slots, self.waiting, u32::MAX, used.frame())
     }
 
     /// Takes the first set out of the queue.

@@ -38,6 +38,20 @@ impl<L, P, S, D: DescriptorDevice<L, P, S>> SetManager<L, P, S, D> {
         Ok(())
     }
 
+    /// Allocates the set of a layout that was kept last for the open frame, as `allocate_for_frame` does,
+    /// without a call of the device. `None`, and then nothing changes, if no frame is open, the layout's
+    /// handle is invalid, no set of the layout is kept, or a set waits for a frame later than the open one.
+    /// A loop that tries it first, and then `allocate_for_frame`, makes no call for a set that it reuses.
+    #[inline(always)]
+    pub fn reuse_for_frame(&mut self, layout: LayoutHandle) -> Option<SetHandle>
+    {
+        if !self.is_open {
+            return None;
+        }
+        self.layouts.get(layout)?;
+        self.store.reuse(layout.place(), self.frame)
+    }
+
     /// Allocates a set of a layout for the open frame: the set of the layout that was kept last, or else
     /// a new one. Its handle is valid until the frame ends. The set is freed once the device is done
     /// with the frame.

@@ -34,6 +34,14 @@ impl<L, P, S, D: DescriptorDevice<L, P, S>> Store<L, P, S, D> {
         }
     }
 
+    /// Puts the set of a layout that was kept last to use in a frame, if one is kept and no set waits for a
+    /// later frame. `None` otherwise, and then nothing changes. It doesn't call the device.
+    #[inline(always)]
+    pub(crate) fn reuse(&mut self, layout: u32, frame: u64) -> Option<SetHandle>
+    {
+        self.table.hold_for_frame(layout, frame)
+    }
+
     /// Takes a set of a layout for a use: the last one that was kept, or else a new one. An error is one of
     /// `DescriptorAllocator::allocate_into`, or `OutOfHostMemory` if memory for more slots runs out.
     #[inline(always)]

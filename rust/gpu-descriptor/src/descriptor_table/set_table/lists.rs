@@ -75,6 +75,34 @@ impl<T> SetTable<T> {
     #[inline(always)]
     pub fn hold_kept<N: SetName<T>>(&mut self, layout: u32, used: Use) -> N
     {
+        let near = self.place_for(used);
+        self.hold_after(layout, used, near)
+    }
+
+    /// Takes a kept set of a layout for a frame, as `hold_kept` does, if one is kept and no set waits for a
+    /// later frame. `None` otherwise, and then nothing changes.
+    #[inline(always)]
+    pub fn hold_for_frame<N: SetName<T>>(&mut self, layout: u32, frame: u64) -> Option<N>
+    {
+        if self.kept_count(layout) == 0 {
+            return None;
+        }
+        let used = Use::InFrame(frame);
+        if self.waiting.list.count == 0 {
+            return Some(self.hold_after(layout, used, None));
+        }
+        let last = self.waiting.last;
+        if self.slots.frame(last as usize) > frame {
+            return None;
+        }
+        Some(self.hold_after(layout, used, Some(last)))
+    }
+
+    /// Takes a kept set of a layout, puts it to a use under its next handle, and returns its name. If it waits for
+    /// a frame it comes into the queue after `near`.
+    #[inline(always)]
+    fn hold_after<N: SetName<T>>(&mut self, layout: u32, used: Use, near: Option<u32>) -> N
+    {
         let group = Group::KeptOf(layout as usize);
         let place = self.lists.first(group);
         self.lists.pop(group, self.slots.at(place as usize).next);
@@ -85,7 +113,7 @@ impl<T> SetTable<T> {
             generation,
         };
         let name = N::of(handle, self.slots.at(place as usize).set.as_ref());
-        enqueue(&mut self.slots, &mut self.waiting, place, used);
+        enqueue(&mut self.slots, &mut self.waiting, near, place, used);
         name
     }
 

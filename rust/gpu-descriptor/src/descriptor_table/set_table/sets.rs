@@ -41,6 +41,7 @@ impl<T> SetTable<T> {
     #[inline(always)]
     fn fill<N: SetName<T>>(&mut self, layout: u32, group: u8, set: T, used: Use) -> N
     {
+        let near = self.place_for(used);
         let place = self.lists.vacant.first;
         let slot = self.slots.at(place as usize);
         let handle = SetHandle {
@@ -52,7 +53,7 @@ impl<T> SetTable<T> {
         let name = N::of(handle, Some(&set));
         self.slots.fill(place as usize, handle.generation, layout, group, set, used);
         self.users.join(layout as usize);
-        enqueue(&mut self.slots, &mut self.waiting, place, used);
+        enqueue(&mut self.slots, &mut self.waiting, near, place, used);
         name
     }
 

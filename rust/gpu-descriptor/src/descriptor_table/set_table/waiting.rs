@@ -81,14 +81,19 @@ fn insert<T>(slots: &mut SlotList<T>, queue: &mut Queue, near: Option<u32>, sets
     queue.list.count += sets.list.count;
 }
 
-/// Puts a slot into the queue whose set came to this use, if a set in it waits for a frame.
+/// Puts a slot into the queue after a place, or first, if its set came to a use in which it waits for a frame.
 #[inline]
-pub(super) fn enqueue<T>(slots: &mut SlotList<T>, queue: &mut Queue, place: u32, used: Use)
+pub(super) fn enqueue<T>(
+    slots: &mut SlotList<T>,
+    queue: &mut Queue,
+    near: Option<u32>,
+    place: u32,
+    used: Use,
+)
 {
     if !used.waits() {
         return;
     }
-    let near = place_before(slots, *queue, u32::MAX, used.frame());
     let set = Queue {
         list: Chain {
             first: place,
@@ -124,6 +129,16 @@ impl<T> SetTable<T> {
         insert(&mut self.slots, &mut self.waiting, near, sets);
         self.recent[recent] = last;
         true
+    }
+
+    /// The place in the queue after which a set in this use comes, if it waits for a frame. `None` if it comes first.
+    #[inline]
+    pub(super) fn place_for(&self, used: Use) -> Option<u32>
+    {
+        if !used.waits() {
+            return None;
+        }
+        place_before(&self.slots, self.waiting, u32::MAX, used.frame())
     }
 
     /// Takes the first set out of the queue.

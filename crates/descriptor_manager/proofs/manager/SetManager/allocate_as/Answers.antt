@@ -1,4 +1,4 @@
-use Rattle.descriptor_manager.proofs.Common.{◌≡◌, subst, sym, rules, IsRefusedAtLast, handles_in}
+use Rattle.descriptor_manager.proofs.Common.{◌≡◌, refl, subst, sym, rules, IsRefusedAtLast, handles_in}
 use Rattle.descriptor_manager.proofs.Owned.{if_some, refused_names}
 use Rattle.descriptor_manager.proofs.Requests.{come_then, one_refused, sets_then}
 use Rattle.descriptor_manager.proofs.manager.SetManager.allocate_as.Goals as goal
@@ -7,9 +7,7 @@ pub invariant_of-self-2-clause-sets : goal.invariant_of-self-2-clause-sets
 invariant_of-self-2-clause-sets g c = sets_then c.args.self.now c.args.layout c.in-Some.known.now c.place.result c.place.ensures (sym c.in-Some.ensures.layout) 1 c.args.used (handles_in c.allocate.result) c.allocate.new.self c.allocate.result c.allocate.ensures
 
 pub returns-in-Ok-clause-creates : goal.returns-in-Ok-clause-creates
-returns-in-Ok-clause-creates g c =
-    let come = come_then c.args.self.now c.args.layout _ _ c.place.ensures (sym c.in-Some.ensures.layout) _ _ _ _ _ c.in-Ok.ensures c.requires.live in
-    if_some _ _ _ c.in-Some.ensures.layout (record { names = come.0; own = come.1 })
+returns-in-Ok-clause-creates g c = come_then c.args.self.now c.args.layout _ _ c.place.ensures (sym c.in-Some.ensures.layout) _ _ _ _ _ c.in-Ok.ensures c.requires.live _ refl
 
 pub returns-in-Err-clause-refused : goal.returns-in-Err-clause-refused
 returns-in-Err-clause-refused g c = λ error is.

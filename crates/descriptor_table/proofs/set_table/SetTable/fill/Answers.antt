@@ -1,10 +1,11 @@
-use Rattle.descriptor_table.proofs.Common.{◌∙◌, ap, get_or, waits, is_some, refl, sym, subst, rules, ◌+◌, arith, set-set, chains_in, AreCounted, AreSound, Slot, slot_at, slots_in, layouts_of, removed_of, slots_of, users_in}
+use Rattle.descriptor_table.proofs.Common.{nexts_in, ◌∙◌, ap, get_or, waits, is_some, refl, sym, subst, rules, ◌+◌, arith, set-set, chains_in, AreCounted, AreSound, Slot, slot_at, slots_in, layouts_of, removed_of, slots_of, users_in}
 use Rattle.descriptor_table.proofs.Chains.{listed_out}
 use Rattle.descriptor_table.proofs.Heads.{first, left_sound, more, still}
 use Rattle.descriptor_table.proofs.Listed.{slot_set}
 use Rattle.descriptor_table.proofs.Numbers.{few_users, joined_counted, there_user}
 use Rattle.descriptor_table.proofs.Renewing.{vacant_is}
 use Rattle.descriptor_table.proofs.set_table.SetTable.fill.Goals as goal
+use Rattle.descriptor_table.proofs.Waiting.{near_nexts, queue_nexts}
 
 pub at-slot-requires : goal.at-slot-requires
 at-slot-requires g c = let s = c.args.self.now in search (rules, first s 0 c.requires.some s.lists.vacant refl)
@@ -43,7 +44,11 @@ pub enqueue-requires-clause-within : goal.enqueue-requires-clause-within
 enqueue-requires-clause-within g c = let s = c.args.self.now in search (rules, still s 0 c.requires.some s.lists.vacant refl)
 
 pub enqueue-requires-clause-came : goal.enqueue-requires-clause-came
-enqueue-requires-clause-came g c = let s = c.args.self.now in search (rules, first s 0 c.requires.some s.lists.vacant refl, listed_out)
+enqueue-requires-clause-came g c =
+    let s = c.args.self.now in
+    let was = (first s 0 c.requires.some s.lists.vacant refl).1 in
+    let nexts = sym c.fill.ensures.nexts in
+    (slots_of s, _, c.fill.ensures.writes.slots, refl, refl, listed_out 0 (slot_at (slots_of s) s.lists.vacant.first) was, queue_nexts (slots_of s) 0 (nexts_in s.slots) _ s.waiting nexts s.sound.queue, λ is. near_nexts (slots_of s) _ (nexts_in s.slots) _ s.waiting c.place_for-near.result nexts (c.place_for-near.ensures is))
 
 pub invariant_of-self-clause-sound : goal.invariant_of-self-clause-sound
 invariant_of-self-clause-sound g c =

@@ -1,14 +1,14 @@
-use Rattle.descriptor_table.proofs.Common.{◌≡◌, ◌<◌, ◌+◌, ◌∙◌, None, Some, ℕ, refl, ap, subst, sym, arith, length, last_or, times, chains_in, layouts_of, nexts_in, places_in, removed_of, slots_in, users_in, AreLinked, IsQueue, Queue, Held, Waits, ◌≢◌, refl, SlotList, AreCounted, SetTable}
+use Rattle.descriptor_table.proofs.Common.{last_up_to, ◌≡◌, ◌<◌, ◌+◌, ◌∙◌, None, Some, ℕ, refl, ap, subst, sym, arith, length, last_or, chains_in, layouts_of, nexts_in, places_in, removed_of, slots_in, users_in, AreLinked, IsQueue, Queue, Held, Waits, ◌≢◌, refl, SlotList, AreCounted, SetTable}
 use Rattle.descriptor_table.proofs.Chains.{HasLists, linked_still, unheld}
-use Rattle.descriptor_table.proofs.Counting.{last_in, times_append, walk_length}
+use Rattle.descriptor_table.proofs.Counting.{walk_length}
 use Rattle.descriptor_table.proofs.Names.{names_last}
 use Rattle.descriptor_table.proofs.Reusing.{Reused, comes_back, reused_counted, reused_each, reused_known, reused_none, same_lists, same_places, took_sound}
-use Rattle.descriptor_table.proofs.Waiting.{ComesAt, comes_few, comes_frame, comes_has, comes_there, in_waits, near_there, queue_last, still, still_rises}
+use Rattle.descriptor_table.proofs.Waiting.{ComesAt, comes_few, comes_frame, comes_has, last_waits, still_near, still_rises}
 use Rattle.descriptor_table.proofs.set_table.SetTable.wait_each.Goals.{In-Some-use_each, In_default-use_each}
 use Rattle.descriptor_table.proofs.set_table.SetTable.wait_each.Goals as goal
 
 pub place_before-near-requires-clause-last : goal.place_before-near-requires-clause-last
-place_before-near-requires-clause-last g c = let s = c.args.self.now in λ some. in_waits (slots_in s.slots) (places_in (nexts_in s.slots) s.waiting) s.waiting.last s.sound.queue s.waiting.last (queue_last (slots_in s.slots) (places_in (nexts_in s.slots) s.waiting) s.waiting.last s.sound.queue (omega (arith, some, walk_length s.waiting.list.count (nexts_in s.slots) s.waiting.list.first)))
+place_before-near-requires-clause-last g c = λ some. (last_waits c.args.self.now some).1
 
 pub invariant_of-self-clause-sound : goal.invariant_of-self-clause-sound
 invariant_of-self-clause-sound g c = let s = c.args.self.now in took_sound s.slots c.use_each.new.self (chains_in s.lists) (layouts_of s) s.waiting s.keep s.sound _ (reused_none _ _ (c.in_default-use_each.ensures.none refl)) c.use_each.ensures.nexts
@@ -56,16 +56,11 @@ overflow_cast-count g c = omega (arith, few g (goal.at.overflow_cast-count g c).
 pub insert-requires : goal.insert-requires
 insert-requires g c =
     let e = (goal.at.insert-requires g c).In-Some-use_each in
-    let place = c.place_before-near.ensures in
-    let split = same g e ∙ place.2 in
-    let there = λ (p : ℕ). ap (times p) split ∙ times_append p place.0 place.1 in
-    let frame = λ (p : ℕ) (some : _). (still _ _ _ _ _ c.args.frame (queue g e) (comes g e) p some).1 in
+    let near = still_near _ _ _ _ _ c.args.frame (queue g e) (comes g e) c.place_before-near.result (subst (λ l. c.place_before-near.result ≡ last_up_to (slots_in c.args.self.now.slots) c.args.frame l) (sym (same g e)) c.place_before-near.ensures) in
     record {
-      place = (c.args.frame, place.0, place.1, split, place.3, λ p some. grind (arith, place.4 p some, frame p, there p), λ p some. grind (arith, place.5 p some, frame p, there p), comes_frame _ _ _ _ _ c.args.frame (queue g e) (comes g e));
+      place = (c.args.frame, near, comes_frame _ _ _ _ _ c.args.frame (queue g e) (comes g e));
       few = few g e;
       has = comes_has _ _ _ _ _ c.args.frame (queue g e) (comes g e);
-      there = near_there _ _ _ _ _ c.args.frame (queue g e) (comes g e) place.0 place.1 c.place_before-near.result split place.3;
-      last = comes_there _ _ _ _ _ c.args.frame (queue g e) (comes g e) c.handle-last.result.place (λ none. last_in c.handle-last.result.place (places_in (nexts_in c.use_each.new.self) (sets g e)) (ends g e) (omega (arith, none)));
       rises = still_rises _ _ _ _ _ c.args.frame (queue g e) (comes g e);
       ends = (queue g e).ends;
       sets = ends g e;
