@@ -13,6 +13,7 @@ const MANY: u32 = 2000;
 struct Scene<'a> {
     manager: SetManager<(), u64, u64, &'a CountingDevice>,
     layouts: Vec<LayoutHandle>,
+    first: Vec<LayoutHandle>,
     live: Vec<SetHandle>,
 }
 
@@ -22,7 +23,7 @@ impl<'a> Scene<'a> {
         let mut manager = SetManager::new(device, u32::MAX);
         let layouts: Vec<_> = (0..size).map(|at| add_layout(&mut manager, at)).collect();
         let live = layouts.iter().map(|it| manager.allocate(*it).unwrap()).collect();
-        Scene { manager, layouts, live }
+        Scene { manager, first: layouts[..size.min(4) as usize].to_vec(), layouts, live }
     }
 
     fn free(&mut self, sets: &[SetHandle]) {
@@ -36,13 +37,16 @@ impl<'a> Scene<'a> {
         self.free(&[set.unwrap()]);
     }
 
-    /// A frame of one set.
-    fn frame(&mut self) {
+    /// A frame of so many sets, of the first layouts in turn, while so many frames before it are in flight.
+    #[inline(always)]
+    fn frame(&mut self, sets: usize, in_flight: u64) {
         let frame = self.manager.begin_frame().unwrap();
-        let _set = self.manager.allocate_for_frame(self.layouts[0]).unwrap();
+        for at in 0..sets {
+            let _set = self.manager.allocate_for_frame(self.first[at % self.first.len()]).unwrap();
+        }
         self.manager.end_frame();
         // SAFETY: the device only counts.
-        unsafe { self.manager.frame_done(frame) };
+        unsafe { self.manager.frame_done(frame.saturating_sub(in_flight)) };
     }
 
     /// A layout is added and removed, with a set that is freed in between.
@@ -87,7 +91,12 @@ fn main() {
     };
     let (size, operation): (_, fn(&mut _)) = match name.as_str() {
         "kept" => (MANY, Scene::kept),
-        "frame" => (MANY, Scene::frame),
+        "frame" => (MANY, |it: &mut Scene| it.frame(1, 0)),
+        "drawn" => (MANY, |it: &mut Scene| it.frame(10_000, 2)),
+        "unkept" => (4, |it: &mut Scene| {
+            it.manager.set_max_kept(0);
+            it.frame(10_000, 2)
+        }),
         "removed" => (MANY, Scene::removed),
         "waits" => (1, Scene::waits),
         "grown" => (1, Scene::grown),

@@ -61,11 +61,13 @@ fn round(bench: &mut Bench, layout: &Layout, count: u32) -> Result<(), Allocatio
     Ok(())
 }
 
-fn rounds(bench: &mut Bench, is_marked: bool, count: u32, times: u32) {
+/// So many rounds of so many sets. It returns how many sets these are.
+fn rounds(bench: &mut Bench, is_marked: bool, count: u32, times: u32) -> u64 {
     let one = layout(1, 0, is_marked);
     for _ in 0..times {
         round(bench, &one, count).unwrap();
     }
+    u64::from(count) * u64::from(times)
 }
 
 fn take_each(bench: &mut Bench, layout: &Layout, count: u32, times: u32, held: &mut Sets) {
@@ -146,27 +148,19 @@ fn main() {
         allocator: DescriptorAllocator::new(u32::MAX),
         device: CountingDevice::new(if name == "rollback" { 8 } else { u64::MAX }),
     };
-    let mut sets = 1;
+    let mut operations = u64::from(n);
     match name.as_str() {
-        "single" => rounds(&mut bench, false, 1, n),
-        "frame" => {
-            sets = FRAME;
-            rounds(&mut bench, false, FRAME, n)
-        }
-        "bulk" => rounds(&mut bench, false, n, 1),
-        "request" => {
-            sets = ROUNDS;
-            rounds(&mut bench, false, n, ROUNDS)
-        }
+        "single" => operations = rounds(&mut bench, false, 1, n),
+        "frame" => operations = rounds(&mut bench, false, FRAME, n),
+        "request" => operations = rounds(&mut bench, false, n, ROUNDS),
         "shuffled" => shuffled(&mut bench, n),
         "keys" => keys(&mut bench, n),
-        "marked" => rounds(&mut bench, true, 1, n),
+        "marked" => operations = rounds(&mut bench, true, 1, n),
         "rollback" => rollback(&mut bench, n),
         "drained" => drained(&mut bench, n),
         "ends" => ends(&mut bench, n),
         "full" => full(&mut bench, n),
         _ => panic!("no workload has this name"),
     }
-    let operations = u64::from(n) * u64::from(sets);
     println!("{name} {n} {operations} operations, checksum {}", bench.device.sum());
 }
