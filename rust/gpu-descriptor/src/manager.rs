@@ -284,12 +284,13 @@ impl<L, P, S, D: DescriptorDevice<L, P, S>> SetManager<L, P, S, D> {
     pub fn allocate_for_frame(&mut self, layout: LayoutHandle) -> Result<SetHandle, RequestError> {
         match self.inner.checked().reuse_for_frame(layout) {
             Some(set) => Ok(set),
-            None => self.allocate_out_of_line(layout),
+            None => self.request_for_frame(layout),
         }
     }
 
+    /// `allocate_for_frame` of a layout of which no set can be reused at once.
     #[inline(never)]
-    fn allocate_out_of_line(&mut self, layout: LayoutHandle) -> Result<SetHandle, RequestError> {
+    fn request_for_frame(&mut self, layout: LayoutHandle) -> Result<SetHandle, RequestError> {
         self.inner.call(|inner| inner.allocate_for_frame(layout))
     }
 

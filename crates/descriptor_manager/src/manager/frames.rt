@@ -1,5 +1,5 @@
 //! Frames and their sets.
-ghost use Rattle.std.specs.Prelude.{◌≡◌, ℕ, ◌+◌, ◌<◌, ◌≤◌, ◌^◌, ◌↔◌, ◌⊎◌, [], ◌∷◌, is_some, length, max};
+ghost use Rattle.std.specs.Prelude.{◌≡◌, ℕ, ◌+◌, ◌<◌, ◌≤◌, ◌^◌, ◌↔◌, ◌⊎◌, [], ◌∷◌, length, max};
 ghost use Rattle.std.specs.Prelude.{IfErr, IfOk, IfSome, IsErrOf, IsOk, IsSome, None, OnErr, OnOk};
 ghost use Rattle.std.specs.Prelude.{false, true};
 ghost use Rattle.descriptor_table.specs.Slots.{frame_at, is_due, slot_at};
@@ -74,11 +74,11 @@ impl<L: Drop, P: Drop, S: Drop, D: DescriptorDevice<L, P, S>> SetManager<L, P, S
         ensures takes { IfSome result (λ handle. IfSome (layout_of self.old layout) (λ known.
             Takes known.layout layout.slot.place 1 (Use.InFrame (frame_of self.old)) (handle ∷ [])
             (store_of self.old) (store_of self.new))) }
-        ensures needs { is_some result ≡ true → (is_open self.old ≡ true)
+        ensures needs { IsSome result → (is_open self.old ≡ true)
             × IsSome (layout_of self.old layout) × (0 < kept_of layout self.old) }
         ensures meets { is_open self.old ≡ true → IsSome (layout_of self.old layout)
             → 0 < kept_of layout self.old → ((p : ℕ) → frame_at (slots_of self.old) p
-            ≤ frame_of self.old) → is_some result ≡ true }
+            ≤ frame_of self.old) → IsSome result }
         ensures side { side_of self.new ≡ side_of self.old }
         ensures long { length (slots_of self.new) ≡ length (slots_of self.old) }
         ensures rest { OnlySetsChange self.old self.new }

@@ -1,5 +1,5 @@
 //! Requests for sets: kept ones, and new ones for those that are missing.
-ghost use Rattle.std.specs.Prelude.{◌≡◌, ◌-◌, ◌<◌, ◌≤◌, [], ◌∷◌, length, true, IfErr, IfSome, IsOk, OnErr, OnOk, Ok, Err, None, Result, List, is_some, ℕ};
+ghost use Rattle.std.specs.Prelude.{◌≡◌, ◌-◌, ◌<◌, ◌≤◌, [], ◌∷◌, length, true, IfErr, IfSome, IsOk, OnErr, OnOk, Ok, Err, None, Result, List, IsSome, ℕ};
 ghost use Rattle.gpu_descriptor.specs.Caller.SetLayouts.{IsMeant};
 
 use super::Store;
@@ -68,9 +68,9 @@ impl<L: Drop, P: Drop, S: Drop, D: DescriptorDevice<L, P, S>> Store<L, P, S, D> 
         requires layout { HasLayout layout self.old.table }
         ensures reuses { (known : L) → IfSome result (λ handle. Requests known layout 1
             (Use.InFrame frame) (handle ∷ []) (Ok handle) self.old self.new) }
-        ensures kept { is_some result ≡ true → 0 < kept_of layout self.old }
+        ensures kept { IsSome result → 0 < kept_of layout self.old }
         ensures meets { 0 < kept_of layout self.old → ((p : ℕ) → frame_at (slots_in self.old) p
-            ≤ frame) → is_some result ≡ true }
+            ≤ frame) → IsSome result }
         ensures side { side_of self.new ≡ side_of self.old }
         ensures settles { Settles NoneComes self.old self.new }
         ensures as_many { length (slots_in self.new) ≡ length (slots_in self.old) }

@@ -1,7 +1,7 @@
 //! The lists of slots without a set, of sets that go back to their pools, and of kept sets.
-ghost use Rattle.std.specs.Prelude.{◌≡◌, ◌==◌, ◌+◌, ◌<◌, ◌≤◌, IfSome, IsTrue, None, is_some, length, nat_le, true, false, ℕ};
+ghost use Rattle.std.specs.Prelude.{◌≡◌, ◌==◌, ◌+◌, ◌<◌, ◌≤◌, IfSome, IsSome, IsTrue, None, is_some, length, true, false, ℕ};
 
-use super::waiting::enqueue;
+use super::queue::enqueue;
 use super::{GROUPS, SetTable};
 use crate::giving::Group;
 use crate::handle::{SetHandle, SetName};
@@ -118,9 +118,9 @@ impl<T> SetTable<T> {
         requires layout { HasLayout layout self.old }
         ensures kept { IfSome result (λ name. is_kept_of layout (slot_at (slots_of self.old)
             (N.handle_of name).place) ≡ true) }
-        ensures some { is_some result ≡ true → 0 < count (is_kept_of layout) (slots_of self.old) }
+        ensures some { IsSome result → 0 < count (is_kept_of layout) (slots_of self.old) }
         ensures meets { 0 < count (is_kept_of layout) (slots_of self.old) → ((p : ℕ) → frame_at
-            (slots_of self.old) p ≤ frame) → is_some result ≡ true }
+            (slots_of self.old) p ≤ frame) → IsSome result }
         ensures renews { IfSome result (λ name. Renews self.old.number (N.handle_of name).place
             (Use.InFrame frame) (N.handle_of name) (slots_of self.old) (slots_of self.new)) }
         ensures fits { IfSome result (λ name. N.fit name (slot_at (slots_of self.new)

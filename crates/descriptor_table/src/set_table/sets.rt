@@ -2,7 +2,7 @@
 ghost use Rattle.std.specs.Prelude.{◌≡◌, ◌⊎◌, ℕ, ◌+◌, ◌<◌, [], ◌∷◌, ◌++◌, length, true, None, Some};
 
 use super::SetTable;
-use super::waiting::enqueue;
+use super::queue::enqueue;
 use crate::giving::Group;
 use crate::handle::{SetHandle, SetName};
 use crate::slot::Use;

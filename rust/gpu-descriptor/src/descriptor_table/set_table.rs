@@ -5,6 +5,7 @@ mod back;
 mod counts;
 mod layouts;
 mod lists;
+mod queue;
 mod sets;
 mod waiting;
 

@@ -2,7 +2,7 @@
 //! Sets that are put into slots, get handles, and leave.
 
 use super::SetTable;
-use super::waiting::enqueue;
+use super::queue::enqueue;
 use crate::descriptor_table::giving::Group;
 use crate::descriptor_table::handle::{SetHandle, SetName};
 use crate::descriptor_table::slot::Use;

@@ -2,7 +2,7 @@ use Rattle.descriptor_table.proofs.Common.{◌≡◌, ◌<◌, ◌∙◌, [], �
 use Rattle.std.proofs.lemmas.List.{append_assoc, length-append}
 use Rattle.descriptor_table.proofs.Counting.{Leads, after_other, cut_at, last_append, walk_leads, walk_length, walk_next}
 use Rattle.descriptor_table.proofs.Waiting.{found_after, found_first, found_last}
-use Rattle.descriptor_table.proofs.set_table.waiting.earlier_place.Goals as goal
+use Rattle.descriptor_table.proofs.set_table.queue.earlier_place.Goals as goal
 
 pub returns-in_default : goal.returns-in_default
 returns-in_default g c = found_first (slots_in c.args.slots.now) _ c.args.frame c.requires.rises (λ p rest is. subst (λ p. c.args.frame < frame_at (slots_in c.args.slots.now) p) (sym (subst (Leads (nexts_in c.args.slots.now) c.args.queue.list.first) is (walk_leads c.args.queue.list.count (nexts_in c.args.slots.now) c.args.queue.list.first)).0) (c.in_default.ensures.none refl))

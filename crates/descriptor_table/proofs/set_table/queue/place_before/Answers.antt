@@ -1,7 +1,7 @@
 use Rattle.descriptor_table.proofs.Common.{ap, arith, length, refl, nexts_in, slots_in}
 use Rattle.descriptor_table.proofs.Counting.{walk_length}
 use Rattle.descriptor_table.proofs.Waiting.{found_first, found_last}
-use Rattle.descriptor_table.proofs.set_table.waiting.place_before.Goals as goal
+use Rattle.descriptor_table.proofs.set_table.queue.place_before.Goals as goal
 
 pub returns-then-queue-eq0 : goal.returns-then-queue-eq0
 returns-then-queue-eq0 g c =

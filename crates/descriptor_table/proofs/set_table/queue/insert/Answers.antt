@@ -5,8 +5,8 @@ use Rattle.descriptor_table.proofs.Counts.{bit_few}
 use Rattle.descriptor_table.proofs.Listed.{bit, member, test_within}
 use Rattle.descriptor_table.proofs.Sound.{same_long}
 use Rattle.descriptor_table.proofs.Waiting.{Found, comes_found}
-use Rattle.descriptor_table.proofs.set_table.waiting.insert.Goals.{Start, in-Some, then-near-queue, else-near-queue, in-None+then-queue-eq0, in-None+else-queue-eq0}
-use Rattle.descriptor_table.proofs.set_table.waiting.insert.Goals as goal
+use Rattle.descriptor_table.proofs.set_table.queue.insert.Goals.{Start, in-Some, then-near-queue, else-near-queue, in-None+then-queue-eq0, in-None+else-queue-eq0}
+use Rattle.descriptor_table.proofs.set_table.queue.insert.Goals as goal
 
 module _ (g : _) (c : Start g) where
   abbrev next : List ℕ

@@ -1,9 +1,9 @@
 use Rattle.descriptor_table.proofs.Common.{common_steps, ◌∙◌, ℕ, [], ◌∷◌, arith, refl, sym, length-set, frame_of, nexts_in, places_in, slots_in}
 use Rattle.descriptor_table.proofs.Counting.{walk_length}
 use Rattle.descriptor_table.proofs.Waiting.{ComesAt, comes_few, comes_has, comes_frame, out_queue, set_comes, still_near, still_rises}
-use Rattle.descriptor_table.proofs.set_table.waiting.enqueue.Given.{Over}
-use Rattle.descriptor_table.proofs.set_table.waiting.enqueue.Goals.{Else-not-waits}
-use Rattle.descriptor_table.proofs.set_table.waiting.enqueue.Goals as goal
+use Rattle.descriptor_table.proofs.set_table.queue.enqueue.Given.{Over}
+use Rattle.descriptor_table.proofs.set_table.queue.enqueue.Goals.{Else-not-waits}
+use Rattle.descriptor_table.proofs.set_table.queue.enqueue.Goals as goal
 
 comes : (g : Over) (c : Else-not-waits g) (q : ℕ) → ComesAt c.requires.came.0 (slots_in c.args.slots.now) (c.args.place ∷ []) (frame_of c.args.used) q
 comes g c q = (let came = c.requires.came in set_comes came.0 (slots_in c.args.slots.now) c.args.place came.1 c.args.used came.2 c.requires.within came.5 came.3 came.4 (sym c.waits.ensures ∙ c.if-not-waits.false) q)

@@ -1,5 +1,5 @@
 use Rattle.descriptor_table.proofs.Common.{◌≡◌, ◌≤◌, ℕ, List, ◌++◌, Some, None, length, last_or, frame_at, nexts_in, places_in, slots_in}
-use Rattle.descriptor_table.proofs.set_table.waiting.earlier_place.Given as goal
+use Rattle.descriptor_table.proofs.set_table.queue.earlier_place.Given as goal
 
 -- at least so many places were passed, of sets that wait up to the frame
 abbrev pub invariant-loop : goal.invariant-loop
