@@ -39,8 +39,8 @@ fn bytes_of_a_set(is_one_request: bool) -> usize {
     taken / SETS
 }
 
-/// README says 56 to 112 bytes. One large request grows the lists to what it needs.
+/// README says 56 to 112 bytes. One large request takes no more.
 #[test]
 fn memory_of_a_held_set() {
-    assert_eq!((bytes_of_a_set(false), bytes_of_a_set(true)), (56, 80));
+    assert_eq!((bytes_of_a_set(false), bytes_of_a_set(true)), (56, 56));
 }

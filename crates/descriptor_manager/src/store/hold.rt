@@ -1,10 +1,13 @@
 //! Sets that are put to a use, under the next handles of their slots.
-ghost use Rattle.std.specs.Prelude.{◌≡◌, ℕ, ◌+◌, ◌<◌, ◌≤◌, [], ◌∷◌, length, true};
+ghost use Rattle.std.specs.Prelude.{◌≡◌, ℕ, ◌+◌, ◌<◌, ◌≤◌, [], ◌∷◌, length, true, vec_capacity};
 ghost use Rattle.gpu_descriptor.specs.Caller.Sets.{AreOfLayout};
 
 use super::Store;
 use descriptor_table::{SetName, Use};
 use gpu_descriptor::{DescriptorDevice, DescriptorSet};
+
+/// For how many new sets a store keeps memory.
+const MAX_COMING: usize = 1024;
 
 impl<L: Drop, P: Drop, S: Drop, D: DescriptorDevice<L, P, S>> Store<L, P, S, D> {
     ghost use Rattle.descriptor_table.specs.Sets.{AllFit};
@@ -86,7 +89,7 @@ impl<L: Drop, P: Drop, S: Drop, D: DescriptorDevice<L, P, S>> Store<L, P, S, D> 
         }
     }
 
-    /// Puts the new sets in `coming` to a use, and writes their names.
+    /// Puts the new sets in `coming` to a use, and writes their names. Of its memory it keeps that for 1024 sets.
     pub(super) fn hold_coming<N: SetName<DescriptorSet<S>> + Drop>(
         &mut self,
         layout: u32,
@@ -100,6 +103,7 @@ impl<L: Drop, P: Drop, S: Drop, D: DescriptorDevice<L, P, S>> Store<L, P, S, D> 
         ensures holds { HoldEach self.old.table.number layout used
             (N.handles_of names.new) (slots_in self.old) (slots_in self.new) }
         ensures none { self.new.coming.items ≡ [] }
+        ensures memory { vec_capacity self.new.coming ≤ 1024 }
         ensures fit { AllFit N.handle_of N.fit (slots_in self.new) names.new }
         ensures long { length names.new ≡ length names.old }
         ensures keeps { (known : L) → AreOfLayout D.meaning known self.old.coming.items
@@ -107,6 +111,9 @@ impl<L: Drop, P: Drop, S: Drop, D: DescriptorDevice<L, P, S>> Store<L, P, S, D> 
     {
         for index in 0..names.len() {
             names[index] = self.hold_last(layout, used);
+        }
+        if self.coming.capacity() > MAX_COMING {
+            self.coming.shrink_to_fit();
         }
     }
 }

@@ -43,6 +43,12 @@ impl<T> Vec<T> {
         self.0.try_reserve_exact(additional).map_err(|_| AllocError)
     }
 
+    /// `items`, `len`: nothing moves out. `frees`: an empty vector frees its memory, and nothing is allocated.
+    #[inline]
+    pub fn shrink_to_fit(&mut self) {
+        self.0.shrink_to_fit();
+    }
+
     /// `rest`: gives the values of the range, in order. `kept`: the others stay.
     #[inline]
     pub fn drain<R: RangeBounds<usize>>(&mut self, range: R) -> std_alloc::vec::Drain<'_, T> {
@@ -122,6 +128,16 @@ mod tests {
         assert_eq!(items.reserve(usize::MAX), Err(AllocError));
         assert_eq!(items.reserve_exact(usize::MAX), Err(AllocError));
         assert_eq!((items.capacity(), &*items), (capacity, &[1][..]));
+    }
+
+    #[test]
+    fn an_empty_vector_frees_its_memory() {
+        let mut items = Vec::new(Global);
+        items.reserve(1000).unwrap();
+        items.push_reserved(1);
+        assert_eq!(items.pop(), Some(1));
+        items.shrink_to_fit();
+        assert_eq!(items.capacity(), 0);
     }
 
     #[test]

@@ -5,6 +5,9 @@ use super::Store;
 use crate::descriptor_table::{SetName, Use};
 use crate::gpu_descriptor::{DescriptorDevice, DescriptorSet};
 
+/// For how many new sets a store keeps memory.
+const MAX_COMING: usize = 1024;
+
 impl<L, P, S, D: DescriptorDevice<L, P, S>> Store<L, P, S, D> {
     /// Puts a kept set of a layout to a use, and returns its name.
     #[inline]
@@ -40,7 +43,7 @@ impl<L, P, S, D: DescriptorDevice<L, P, S>> Store<L, P, S, D> {
         }
     }
 
-    /// Puts the new sets in `coming` to a use, and writes their names.
+    /// Puts the new sets in `coming` to a use, and writes their names. Of its memory it keeps that for 1024 sets.
     pub(super) fn hold_coming<N: SetName<DescriptorSet<S>>>(
         &mut self,
         layout: u32,
@@ -50,6 +53,9 @@ impl<L, P, S, D: DescriptorDevice<L, P, S>> Store<L, P, S, D> {
     {
         for index in 0..names.len() {
             names[index] = self.hold_last(layout, used);
+        }
+        if self.coming.capacity() > MAX_COMING {
+            self.coming.shrink_to_fit();
         }
     }
 }

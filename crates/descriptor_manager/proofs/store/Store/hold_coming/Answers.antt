@@ -28,5 +28,13 @@ loop-index-preserved g c =
       keeps = λ known own. holds_after (ComesOf g.D.DescriptorDevice.meaning known c.args.layout) _ _ _ _ _ _ _ _ (λ n x come. come) c.requires.live now.holds (was.keeps known own) (now.keeps known (was.own known own));
     }
 
-pub returns-clause-fit : goal.returns-clause-fit
-returns-clause-fit g c = subst (AllFit g.N.SetName.handle_of g.N.SetName.fit (slots_in c.loop-index.self)) (take_all c.loop-index.index c.loop-index.names (let end = c.loop-index-test.false in let long = c.loop-index.invariant.long in omega arith)) c.loop-index.invariant.fit
+pub returns-then-capacity-gt-MAX_COMING-clause-fit : goal.returns-then-capacity-gt-MAX_COMING-clause-fit
+returns-then-capacity-gt-MAX_COMING-clause-fit g c = subst (AllFit g.N.SetName.handle_of g.N.SetName.fit (slots_in c.loop-index.self)) (take_all c.loop-index.index c.loop-index.names (let end = c.loop-index-test.false in let long = c.loop-index.invariant.long in omega arith)) c.loop-index.invariant.fit
+
+pub returns-else-capacity-gt-MAX_COMING-clause-fit : goal.returns-else-capacity-gt-MAX_COMING-clause-fit
+returns-else-capacity-gt-MAX_COMING-clause-fit g c = subst (AllFit g.N.SetName.handle_of g.N.SetName.fit (slots_in c.loop-index.self)) (take_all c.loop-index.index c.loop-index.names (let end = c.loop-index-test.false in let long = c.loop-index.invariant.long in omega arith)) c.loop-index.invariant.fit
+
+pub returns-then-capacity-gt-MAX_COMING-clause-keeps : goal.returns-then-capacity-gt-MAX_COMING-clause-keeps
+returns-then-capacity-gt-MAX_COMING-clause-keeps g c known own =
+    let was = c.loop-index.invariant.keeps known own in
+    record { side = was.side; sets = was.sets; grows = was.grows; stays = record { settings = was.stays.settings; limit = was.stays.limit; bound = was.stays.bound; besides = was.stays.besides } }
