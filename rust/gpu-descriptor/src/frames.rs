@@ -47,8 +47,8 @@ use std_alloc::vec::Vec;
 ///
 /// If a device or an iterator of sets panics in a call, or a device breaks its contract, the manager is
 /// poisoned: from then on every call that changes something panics, except `reserve`, `retire` and
-/// `retire_all`. While the thread unwinds, `finish`, `free`, `cleanup` and `trim` do nothing instead;
-/// without std they panic even then, which ends the program. See [After a panic](crate#after-a-panic).
+/// `retire_all`. While the thread unwinds, `finish`, `free`, `cleanup`, `trim` and `trim_layout` do nothing
+/// instead; without std they panic even then, which ends the program. See [After a panic](crate#after-a-panic).
 ///
 /// A drop destroys no pools: see [At a drop](crate#at-a-drop).
 #[derive(Debug)]
@@ -299,6 +299,22 @@ impl<P, S> FrameManager<P, S> {
     pub unsafe fn trim<L>(&mut self, device: &impl DescriptorDevice<L, P, S>) {
         let device = &mut Adapter { device };
         self.inner.call_in_drop(|inner| inner.trim(device));
+    }
+
+    /// Destroys the pools of the layout's [key](crate) that have no set, retired or not, wherever they are. See
+    /// [`DescriptorAllocator::trim_layout`](crate::DescriptorAllocator::trim_layout).
+    ///
+    /// # Safety
+    ///
+    /// Every call of this manager gets the same device.
+    pub unsafe fn trim_layout<L>(
+        &mut self,
+        device: &impl DescriptorDevice<L, P, S>,
+        layout: &SetLayout<L>,
+    ) {
+        let device = &mut Adapter { device };
+        self.inner
+            .call_in_drop(|inner| inner.trim_layout(device, layout));
     }
 
     /// Bounds the descriptors of each new pool. At first it is `None`, as in gpu-descriptor 0.3.2. See

@@ -247,6 +247,7 @@ fn calls_of_a_manager() -> Vec<Call<Managing>> {
         PanicsButInADrop (on.it).free(&on.device, on.sets.drain(..));
         PanicsButInADrop (on.it).cleanup(&on.device);
         PanicsButInADrop (on.it).trim(&on.device);
+        PanicsButInADrop (on.it).trim_layout(&on.device, &on.layout);
         Panics (on.it).set_max_pool_descriptors(None);
         Answers (on.it).max_pool_descriptors();
         Answers (on.it).reserve(1);

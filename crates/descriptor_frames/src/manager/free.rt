@@ -8,11 +8,13 @@ ghost use Rattle.gpu_descriptor.specs.Caller.Sets.{items_of};
 ghost use Rattle.gpu_descriptor.specs.Caller.States.{Agrees};
 ghost use Rattle.std.specs.Prelude.{◌≡◌, ◌+◌, ◌≤◌, [], length, false, true};
 ghost use Rattle.descriptor_frames.specs.Retired.{later};
-ghost use Rattle.gpu_descriptor.specs.Caller.CleansUp.{Sweeps};
+ghost use Rattle.gpu_descriptor.specs.Caller.CleansUp.{Sweeps, TrimsKey};
+ghost use Rattle.gpu_descriptor.specs.Caller.Call.{layout_key};
+ghost use Rattle.gpu_descriptor.specs.Caller.SetLayouts.{IsMeant};
 
 use super::FrameManager;
 use crate::due::Due;
-use gpu_descriptor::{DescriptorDevice, DescriptorSet};
+use gpu_descriptor::{DescriptorDevice, DescriptorSet, SetLayout};
 use std::vec::Vec;
 
 impl<P, S> FrameManager<P, S> {
@@ -139,5 +141,25 @@ impl<P: Drop, S> FrameManager<P, S> {
             (D.ledger device.old) (D.ledger device.new) }
     {
         self.allocator.trim(device);
+    }
+
+    /// Destroys the pools of a layout's key that have no set. Same as `DescriptorAllocator::trim_layout`. A
+    /// pool of a retired set stays.
+    pub fn trim_layout<L, D: DescriptorDevice<L, P, S>>(
+        &mut self,
+        device: &mut D,
+        layout: &SetLayout<L>,
+    )
+        requires meant { IsMeant D.meaning layout.now }
+        requires agree { Agrees D.meaning.pool_name (allocator_of self.old) (D.ledger device.old) }
+        ensures trims { TrimsKey D.meaning (layout_key D.meaning layout.now.layout)
+            (side (allocator_of self.old) (D.ledger device.old))
+            (side (allocator_of self.new) (D.ledger device.new)) }
+        ensures keeps { KeepsRetired D.meaning (side self.old (D.ledger device.old))
+            (side self.new (D.ledger device.new)) }
+        ensures in_use { KeepsInUse D.meaning.pool_name D.meaning.set_name self.old self.new
+            (D.ledger device.old) (D.ledger device.new) }
+    {
+        self.allocator.trim_layout(device, layout);
     }
 }

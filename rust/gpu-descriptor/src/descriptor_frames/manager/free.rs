@@ -3,7 +3,7 @@
 
 use super::FrameManager;
 use crate::descriptor_frames::due::Due;
-use crate::gpu_descriptor::{DescriptorDevice, DescriptorSet};
+use crate::gpu_descriptor::{DescriptorDevice, DescriptorSet, SetLayout};
 
 impl<P, S> FrameManager<P, S> {
     /// Frees the sets in use that the iterator yields up to its end, at once. Same as
@@ -48,5 +48,16 @@ impl<P, S> FrameManager<P, S> {
     pub fn trim<L, D: DescriptorDevice<L, P, S>>(&mut self, device: &mut D)
     {
         self.allocator.trim(device);
+    }
+
+    /// Destroys the pools of a layout's key that have no set. Same as `DescriptorAllocator::trim_layout`. A
+    /// pool of a retired set stays.
+    pub fn trim_layout<L, D: DescriptorDevice<L, P, S>>(
+        &mut self,
+        device: &mut D,
+        layout: &SetLayout<L>,
+    )
+    {
+        self.allocator.trim_layout(device, layout);
     }
 }
