@@ -2,17 +2,17 @@
 
 mod refuses;
 
-use gpu_descriptor::manager::SetManager;
+use gpu_descriptor::manager::{LayoutHandle, SetManager};
 use gpu_descriptor::*;
-use refuses::bytes;
+use refuses::{bytes, with_refused};
 
 include!("numbers/device.rs");
 
 /// A power of two: the lists have doubled so far, and are full.
 const SETS: usize = 1 << 16;
 
-/// The memory for held sets, for each set, without that of a set manager with a layout.
-fn bytes_of_a_set(is_one_request: bool) -> usize {
+/// A set manager with a layout.
+fn manager() -> (SetManager<u64, u64, u64, Device>, LayoutHandle) {
     let counts = DescriptorTotalCount {
         sampler: 1,
         ..Default::default()
@@ -25,6 +25,12 @@ fn bytes_of_a_set(is_one_request: bool) -> usize {
     let mut it = SetManager::new(Device::default(), 0);
     // SAFETY: the device knows no layouts.
     let layout = unsafe { it.add_layout(layout) }.unwrap();
+    (it, layout)
+}
+
+/// The memory for held sets, for each set, without that of a set manager with a layout.
+fn bytes_of_a_set(is_one_request: bool) -> usize {
+    let (mut it, layout) = manager();
     let before = bytes();
     if is_one_request {
         drop(it.allocate_many(layout, SETS as u32).unwrap());
@@ -43,4 +49,23 @@ fn bytes_of_a_set(is_one_request: bool) -> usize {
 #[test]
 fn memory_of_a_held_set() {
     assert_eq!((bytes_of_a_set(false), bytes_of_a_set(true)), (56, 56));
+}
+
+/// Whichever of its allocations fails, a large request leaves memory for the table's slots at most.
+#[test]
+fn memory_after_a_refused_request() {
+    for refused in 0.. {
+        let (mut it, layout) = manager();
+        let before = bytes();
+        let (result, _) = with_refused(refused, || it.allocate_many(layout, SETS as u32));
+        if result.is_ok() {
+            assert!(refused > 3, "handles, slots, new sets, a pool");
+            // SAFETY: the device isn't in use.
+            unsafe { it.shutdown() };
+            return;
+        }
+        assert!((bytes() - before) / SETS <= 56);
+        // SAFETY: as above.
+        unsafe { it.shutdown() };
+    }
 }

@@ -1,5 +1,5 @@
 //! Requests for sets: kept ones, and new ones for those that are missing.
-ghost use Rattle.std.specs.Prelude.{◌≡◌, ◌-◌, ◌<◌, ◌≤◌, [], ◌∷◌, length, true, IfErr, IfSome, IsOk, OnErr, OnOk, Ok, Err, None, Result, List, IsSome, ℕ};
+ghost use Rattle.std.specs.Prelude.{◌≡◌, ◌-◌, ◌<◌, ◌≤◌, [], ◌∷◌, length, true, IfErr, IfSome, IsOk, OnErr, OnOk, Ok, Err, None, Result, List, IsSome, vec_capacity, ℕ};
 ghost use Rattle.gpu_descriptor.specs.Caller.SetLayouts.{IsMeant};
 
 use super::Store;
@@ -14,7 +14,8 @@ impl<L: Drop, P: Drop, S: Drop, D: DescriptorDevice<L, P, S>> Store<L, P, S, D> 
     ghost use Rattle.descriptor_manager.specs.Stores.{IsRefusedAtLast, KeepsStore, Requests};
     ghost use Rattle.descriptor_manager.specs.Stores.{NoneComes, Settles, handles_in, kept_of, side_of, slots_in};
 
-    /// Asks the allocator for `many` sets of a layout. The table has room for them.
+    /// Asks the allocator for `many` sets of a layout. The table has room for them. If they are refused, the
+    /// memory for them is freed.
     fn ask_for(&mut self, known: &SetLayout<L>, many: u32) -> Result<(), AllocationError>
         requires meant { IsMeant D.meaning known.now }
         requires none { self.old.coming.items ≡ [] }
@@ -23,11 +24,17 @@ impl<L: Drop, P: Drop, S: Drop, D: DescriptorDevice<L, P, S>> Store<L, P, S, D> 
         ensures refused { IfErr result (λ error. IsRefused known.now.layout many error self.old
             self.new) }
         ensures none { OnErr result (self.new.coming.items ≡ []) }
+        ensures memory { OnErr result (vec_capacity self.new.coming ≡ 0) }
         ensures table { OnOk result (HasRoom many self.new.table) }
         ensures stays { KeepsStore self.old self.new }
     {
-        self.allocator
-            .allocate_into(&mut self.device, known, many, &mut self.coming)
+        let asked = self
+            .allocator
+            .allocate_into(&mut self.device, known, many, &mut self.coming);
+        if asked.is_err() {
+            self.coming.shrink_to_fit();
+        }
+        asked
     }
 
     /// Asks the allocator for those of `many` sets for which no set is kept; there are some. If it

@@ -6,11 +6,17 @@ use crate::descriptor_table::{SetHandle, SetName, Use};
 use crate::gpu_descriptor::{AllocationError, DescriptorDevice, DescriptorSet, SetLayout};
 
 impl<L, P, S, D: DescriptorDevice<L, P, S>> Store<L, P, S, D> {
-    /// Asks the allocator for `many` sets of a layout. The table has room for them.
+    /// Asks the allocator for `many` sets of a layout. The table has room for them. If they are refused, the
+    /// memory for them is freed.
     fn ask_for(&mut self, known: &SetLayout<L>, many: u32) -> Result<(), AllocationError>
     {
-        self.allocator
-            .allocate_into(&mut self.device, known, many, &mut self.coming)
+        let asked = self
+            .allocator
+            .allocate_into(&mut self.device, known, many, &mut self.coming);
+        if asked.is_err() {
+            self.coming.shrink_to_fit();
+        }
+        asked
     }
 
     /// Asks the allocator for those of `many` sets for which no set is kept; there are some. If it
