@@ -1,7 +1,7 @@
 -- A set that comes to a use: for `hold_next`, `reuse`, `hold_last`, `LayoutRegistry::add` and `Joining`. `cleared_of`, `unmet_slots` and `refused_arrives`
 -- say what a refusal leaves. `o` is its slot before and `n` after, `p` its place, `u` the use, and `handle` the next one of the slot.
-use Rattle.descriptor_manager.proofs.Common.{common_steps, ◌≡◌, ◌≢◌, ℕ, ◌+◌, ◌<◌, ◌⊎◌, true, List, [], ◌∷◌, length, length-set, test_within, Some, is_some, refl, sym, ap, subst, ◌∙◌, arith, rules, Ghosts, DescriptorSet, AllocationError, cases_eq, Slot, count, frame_of, is_kept_of, is_live, slot_at, Puts, Renews, is_usable, renewed, SetHandle, Use, lists_apart}
-use Rattle.descriptor_manager.proofs.Common.{live_no_list, bit, count_set, same_count, other_slots, slot_set, kept_is, AreCleaned, ComesInto, HoldEach, IsCleared, IsRefusedAtLast, IsUnmet, slots_in, Store, false, inl, inr, AreAllUsed, Grows, named_or}
+use Rattle.descriptor_manager.proofs.Common.{common_steps, ◌≡◌, ◌≢◌, ℕ, ◌+◌, ◌<◌, true, List, [], ◌∷◌, length, length-set, test_within, is_some, refl, sym, ap, subst, ◌∙◌, arith, rules, Ghosts, DescriptorSet, AllocationError, Slot, count, frame_of, is_kept_of, is_live, slot_at, Puts, Renews, is_usable, renewed, SetHandle, Use, lists_apart}
+use Rattle.descriptor_manager.proofs.Common.{live_no_list, bit, count_set, same_count, other_slots, slot_set, kept_is, AreCleaned, ComesInto, HoldEach, IsCleared, IsRefusedAtLast, IsUnmet, slots_in, Store, Grows, named_or}
 use Rattle.descriptor_manager.proofs.Arriving.{Arrives, arrives_then, clears, clears_arrives, same_arrives}
 use Rattle.descriptor_manager.proofs.Naming.{is_free, kept_as, next_of}
 
@@ -28,12 +28,6 @@ module _ {T : Type 0} (number p : ℕ) (u : Use) (handle : SetHandle) where
   -- a set of the layout that was put into a slot did
   pub new_one : (layout : ℕ) (x : T) (old put new : List (Slot T)) → Puts layout x p old put → Renews number p u handle put new → HoldEach number layout u (handle ∷ []) old new
   new_one layout x old put new puts renews = search (rules, next_of, one, other_slots, slot_set)
-
-  -- it is the only set that comes
-  pub new_comes :
-      (comes : ℕ → T → Type 0) (layout : ℕ) (x : T) (old put new : List (Slot T)) → Puts layout x p old put → Renews number p u handle put new → comes layout x
-      → (q : ℕ) (y : T) → (slot_at new q).set ≡ Some y → (((slot_at old q).set ≡ Some y) × ((slot_at new q).layout ≡ (slot_at old q).layout)) ⊎ comes (slot_at new q).layout y
-  new_comes comes layout x old put new puts renews came q y e = grind (arith, common_steps, cases_eq q p, slot_set put p (renewed u (slot_at put p)) puts.within)
 
   -- a kept set of the layout came to the use
   module _ (layout : ℕ) (old new : List (Slot T)) (was : is_kept_of layout (slot_at old p) ≡ true) (renews : Renews number p u handle old new) where
@@ -71,13 +65,6 @@ module _ {L P S D : Type 0} {d : Ghosts D L P S} where
 -- There are more slots only if each has a set, or had its last generation (`Grows`): for the calls of `Store` that give handles.
 
 module _ {T : Type 0} where
-  -- a new set gets a handle
-  pub grow_new : (number layout p : ℕ) (x : T) (u : Use) (handle : SetHandle) (old mid new : List (Slot T)) → ((s : Slot T) → is_usable (renewed u s) ≡ false) → Puts layout x p old mid → Renews number p u handle mid new → (length new ≡ length old) ⊎ AreAllUsed old → Grows old new
-  grow_new number layout p x u handle old mid new used puts r grows = elim grows [
-    | inl same ↦ inl same
-    | inr all ↦ inr (λ q. grind (arith, common_steps, cases_eq q p, slot_set mid p (renewed u (slot_at mid p)) puts.within, other_slots mid p (renewed u (slot_at mid p)) q, puts.others q, all q))
-  ]
-
   -- one step after others
   pub grow_more : (number : ℕ) (layout : ℕ) (u : Use) (handles : List SetHandle) (old mid new : List (Slot T)) → is_live (frame_of u) true u ≡ true → Grows old mid → Grows mid new → HoldEach number layout u handles mid new → Grows old new
   grow_more number layout u handles old mid new live first last holding = search (rules, came_used, live_no_list, named_or)

@@ -132,10 +132,6 @@ module _ {L P S D : Type 0} {d : Ghosts D L P S} where
     pub held_stays : (handles : List SetHandle) (mid new : List (Slot (DescriptorSet S))) (old now : Store L P S D d) → KeepsStore old now → HoldEach now.table.number layout u handles mid new → HoldEach old.table.number layout u handles mid new
     held_stays handles mid new old now stays holds = subst (λ number. HoldEach number layout u handles mid new) (ap (λ (s : Settings). s.number) stays.settings) holds
 
-    -- none is given yet
-    pub held_start : (old : Store L P S D d) → HoldEach old.table.number layout u [] (slots_in old) (slots_in old)
-    held_start old = search rules
-
 -- Names that fit the sets in their slots, while other names are made: `n` says which handle each has.
 module _ {N T : Type 0} (n : set_names.Ghosts N T) (each : (names : List N) → n.handles_of names ≡ map n.handle_of names) (number layout : ℕ) (u : Use) (live : is_live (frame_of u) true u ≡ true) where
   -- names that are made leave those before them fit

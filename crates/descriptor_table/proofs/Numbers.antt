@@ -100,9 +100,6 @@ module _ {T : Type 0} (t : SetTable T) (layout : ℕ) (has : HasLayout layout t)
   users_are : users_at (users_in t.users) layout ≡ count (is_set_of layout) (slots_of t) + 1
   users_are = t.counted.each layout has.within ∙ ap (λ b. count (is_set_of layout) (slots_of t) + (if b then 0 else 1)) has.there
 
-  pub there_user : users_at (users_in t.users) layout ≢ 0
-  there_user e = let is = users_are in omega arith
-
   pub few_users : (p : ℕ) → p < length (slots_of t) → is_some (slot_at (slots_of t) p).set ≡ false → users_at (users_in t.users) layout < 4294967295
   few_users p within none = omega (arith, users_are, t.sound.size, count_less (is_set_of layout) (slots_of t) p within (ap (λ b. b && ((slot_at (slots_of t) p).layout == layout)) none))
 

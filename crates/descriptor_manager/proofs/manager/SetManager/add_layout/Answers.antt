@@ -2,17 +2,10 @@ use Rattle.descriptor_manager.proofs.Common.{◌≡◌, ◌<◌, inl, inr, refl,
 use Rattle.std.specs.Prelude.{OnErr}
 use Rattle.std.proofs.lemmas.Result.{on_err_weaker}
 use Rattle.descriptor_manager.specs.Managers.{NoneFree}
-use Rattle.descriptor_manager.proofs.Owned.{apart_from, gone, layout_used, number_left, seen_kept, sets_renewed, sets_same}
+use Rattle.descriptor_manager.proofs.Owned.{gone, layout_used, number_left, seen_kept, sets_renewed, sets_same}
 use Rattle.descriptor_manager.proofs.manager.SetManager.add_layout.Goals.{in-Some+else-is_usable, in_default}
 use Rattle.descriptor_manager.proofs.manager.SetManager.add_layout.Goals as goal
 
-pub is_usable-requires-clause-within : goal.is_usable-requires-clause-within
-is_usable-requires-clause-within g c = subst (λ n. c.in-Some.number < n) c.args.self.now.sets.numbers c.in-Some.ensures.renews.within
-
-pub is_usable-requires-clause-empty : goal.is_usable-requires-clause-empty
-is_usable-requires-clause-empty g c = number_left _ _ _ _ c.in-Some.ensures.renews.removed c.args.self.now.sets
-
--- the number of a removed layout has another one
 pub invariant_of-self-clause-sets : goal.invariant_of-self-clause-sets
 invariant_of-self-clause-sets g c =
     let used = layout_used c.renew.new.self c.renew.result c.args.layout c.in-Some.number (sym c.renew.ensures.place) c.renew.ensures.added in
@@ -24,10 +17,6 @@ returns-then-is_usable-clause-given g c = c.renew.ensures.names.given 0 c.renew.
 pub returns-then-is_usable-clause-never : goal.returns-then-is_usable-clause-never
 returns-then-is_usable-clause-never g c = c.renew.ensures.names.never 0 c.renew.result.slot (omega arith)
 
-pub returns-then-is_usable-clause-others : goal.returns-then-is_usable-clause-others
-returns-then-is_usable-clause-others g c = λ other ne. c.renew.ensures.names.others other.slot (apart_from c.renew.result.slot other.slot (λ e. ne (λ i. record { slot = e i })))
-
--- a number whose last handle was given is lost
 pub invariant_of-self-else-is_usable-clause-sets : goal.invariant_of-self-else-is_usable-clause-sets
 invariant_of-self-else-is_usable-clause-sets g c = sets_renewed c.args.self.now.store c.renew_layout.new.self c.in-Some.number c.in-Some.ensures.contents c.in-Some.ensures.renews (λ n ne. refl) (sym c.is_usable.ensures.usable ∙ c.if-is_usable.false) refl c.args.self.now.sets
 

@@ -1,5 +1,5 @@
-use Rattle.descriptor_manager.proofs.Common.{◌+◌, [], ◌∷◌, length, refl, sym, ap, ◌∙◌, subst, arith, false, get_or_past, NameEach, sets_of, is_removed, Settings, layout_slots, layouts_by, HasSetsOf}
-use Rattle.descriptor_manager.proofs.Owned.{apart_from, layout_used, next_unused, sets_more, sets_same}
+use Rattle.descriptor_manager.proofs.Common.{◌+◌, length, refl, sym, ap, ◌∙◌, arith, get_or_past, is_removed, Settings, layout_slots, HasSetsOf}
+use Rattle.descriptor_manager.proofs.Owned.{layout_used, next_unused, sets_more, sets_same}
 use Rattle.descriptor_manager.proofs.manager.SetManager.add_number.Goals.{After-reserve}
 use Rattle.descriptor_manager.proofs.manager.SetManager.add_number.Goals as goal
 
@@ -26,8 +26,3 @@ invariant_of-self-2-clause-sets g c =
 
 pub returns-clause-given : goal.returns-clause-given
 returns-clause-given g c = c.add.ensures.names.given 0 c.add.result.slot (omega arith)
-
-pub returns-clause-others : goal.returns-clause-others
-returns-clause-others g c = λ other ne.
-    let names = subst (λ s. NameEach (c.add.result.slot ∷ []) s (layouts_by c.add.new.self)) (λ i. sets_of (c.reserve.ensures.registry i) 0 false (c.reserve.ensures.slots i)) c.add.ensures.names in
-    names.others other.slot (apart_from c.add.result.slot other.slot (λ e. ne (λ i. record { slot = e i })))

@@ -1,6 +1,5 @@
-use Rattle.descriptor_manager.proofs.Common.{common_steps, ◌≡◌, ◌≢◌, true, is_some, inl, inr, refl, sym, ap, ◌∙◌, arith, rules, [], length, length-set, SetLayout, cases_eq, Slot, slot_at, Settings, vacated, none_count, names_kept, other_slots, slot_set, test_within, layout_slots}
+use Rattle.descriptor_manager.proofs.Common.{common_steps, ◌≡◌, true, is_some, inl, inr, refl, sym, ap, ◌∙◌, arith, rules, length, length-set, SetLayout, cases_eq, Slot, slot_at, Settings, vacated, none_count, names_kept, other_slots, slot_set, test_within, layout_slots}
 use Rattle.descriptor_manager.proofs.Common.{layouts_by, NoneComes, removed_in, side_of, slots_in, seen}
-use Rattle.std.proofs.lemmas.List.Elements.{All-cons, All-nil}
 use Rattle.descriptor_manager.proofs.Back.{kept_out}
 use Rattle.descriptor_manager.proofs.Naming.{kept_as, quiet_shown, turned}
 use Rattle.descriptor_manager.proofs.Owned.{layout_here, sets_as, if_here, if_other}
@@ -32,10 +31,5 @@ pub returns-in-Some-clause-names : goal.returns-in-Some-clause-names
 returns-in-Some-clause-names g c = names_kept _ _ _ _ _ (turned _ _ _ _ _ _ c.remove_layout.ensures.removes.turns (λ o n kept gone. search (rules, kept_as, quiet_shown)))
 
 -- the handle lost its layout, and no other handle did
-pub returns-in-Some-clause-others : goal.returns-in-Some-clause-others
-returns-in-Some-clause-others g c = λ other ne.
-    let apart : c.args.layout.slot ≢ other.slot = λ same. ne (λ i. record { slot = sym same i }) in
-    (c.in-Some.ensures.names refl).others other.slot (All-cons (λ h. h ≢ other.slot) c.args.layout.slot [] apart (All-nil (λ h. h ≢ other.slot)))
-
 pub returns-in-Some-clause-rest : goal.returns-in-Some-clause-rest
 returns-in-Some-clause-rest g c = let new = c.remove_layout.new.self in let stays = c.remove_layout.ensures.settles.stays in λ i. record (seen c.args.self.now) { layouts = λ h. (layouts_by c.remove.new.self).set h.slot; given = λ h. (c.in-Some.ensures.names refl).given h.slot i; slots = slots_in new; has_layout = λ n. is_some (slot_at (layout_slots c.remove.new.self) n).set; keep = (stays.settings i).keep; side = side_of new; pools_besides = stays.besides i; limit = stays.limit i; bound = stays.bound i }

@@ -1,9 +1,6 @@
-use Rattle.descriptor_manager.proofs.Common.{common_steps, ◌∙◌, subst, arith, length-set, take_all, AllFit, ComesOf, slots_in}
-use Rattle.descriptor_manager.proofs.Joining.{held_start, holds_after, held_stays, layout_stays, stays_then, store_same, one_more}
+use Rattle.descriptor_manager.proofs.Common.{◌∙◌, subst, arith, length-set, take_all, AllFit, ComesOf, slots_in}
+use Rattle.descriptor_manager.proofs.Joining.{holds_after, held_stays, layout_stays, stays_then, one_more}
 use Rattle.descriptor_manager.proofs.store.Store.hold_coming.Goals as goal
-
-pub loop-index-init : goal.loop-index-init
-loop-index-init g c = grind (arith, common_steps, held_start, store_same)
 
 pub hold_last-requires-clause-layout : goal.hold_last-requires-clause-layout
 hold_last-requires-clause-layout g c = layout_stays _ _ _ c.loop-index.invariant.stays c.requires.layout

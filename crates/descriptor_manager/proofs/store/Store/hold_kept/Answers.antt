@@ -1,9 +1,6 @@
-use Rattle.descriptor_manager.proofs.Common.{common_steps, ◌≡◌, ℕ, ◌+◌, ◌<◌, ◌∙◌, [], ◌∷◌, true, refl, sym, subst, arith, length-set, take_all, AllFit, is_kept_of, slot_at, place_at, handles_long, handles_written, NoneComes, slots_in}
-use Rattle.descriptor_manager.proofs.Joining.{held_start, holds_after, held_stays, store_same, were_kept, one_more}
+use Rattle.descriptor_manager.proofs.Common.{◌≡◌, ℕ, ◌+◌, ◌<◌, ◌∙◌, [], ◌∷◌, true, refl, sym, subst, arith, length-set, take_all, AllFit, is_kept_of, slot_at, place_at, handles_long, handles_written, NoneComes, slots_in}
+use Rattle.descriptor_manager.proofs.Joining.{holds_after, held_stays, were_kept, one_more}
 use Rattle.descriptor_manager.proofs.store.Store.hold_kept.Goals as goal
-
-pub loop-index-init : goal.loop-index-init
-loop-index-init g c = grind (arith, common_steps, held_start, store_same, were_kept)
 
 pub loop-index-preserved : goal.loop-index-preserved
 loop-index-preserved g c =

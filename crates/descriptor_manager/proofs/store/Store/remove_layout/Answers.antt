@@ -1,7 +1,5 @@
-use Rattle.descriptor_manager.proofs.Common.{true, ◌∙◌, ap, sym, subst, arith, rules, List, items_of, count_of, DescriptorSet, sets_in, is_kept_of, Settings, Turns, Becomes, removed_as, slots_of, vacated, side_of, slots_in}
+use Rattle.descriptor_manager.proofs.Common.{true, ◌∙◌, ap, sym, subst, arith, List, items_of, count_of, DescriptorSet, sets_in, is_kept_of, Settings, Turns, Becomes, removed_as, slots_of, vacated, side_of, slots_in}
 use Rattle.descriptor_table.specs.Slots as table
-use Rattle.descriptor_manager.proofs.Back.{kept_out}
-use Rattle.descriptor_manager.proofs.Arriving.{follow_turns, follows_vacated, arrived}
 use Rattle.descriptor_manager.proofs.Joining.{layout_stays}
 use Rattle.descriptor_manager.proofs.store.Store.remove_layout.Goals.{After-remove_layout}
 use Rattle.descriptor_manager.proofs.store.Store.remove_layout.Goals as goal
@@ -13,9 +11,6 @@ pub remove_layout-requires-clause-layout : goal.remove_layout-requires-clause-la
 remove_layout-requires-clause-layout g c = layout_stays _ _ _ c.give.ensures.stays c.requires.layout
 
 -- no set of the layout is kept any more
-pub remove_layout-requires-clause-none_kept : goal.remove_layout-requires-clause-none_kept
-remove_layout-requires-clause-none_kept g c = λ p. kept_out c.args.layout _ _ c.give.ensures.frees.turns p
-
 pub returns-clause-removes : goal.returns-clause-removes
 returns-clause-removes g c =
     record {
@@ -32,6 +27,3 @@ returns-clause-removes g c =
           omega arith
           );
     }
-
-pub returns-clause-settles : goal.returns-clause-settles
-returns-clause-settles g c = search (rules, turns, arrived, follow_turns, follows_vacated)

@@ -1,8 +1,8 @@
-use Rattle.descriptor_table.proofs.Common.{nexts_in, ◌∙◌, ap, get_or, waits, is_some, refl, sym, subst, rules, ◌+◌, arith, set-set, chains_in, AreCounted, AreSound, Slot, slot_at, slots_in, layouts_of, removed_of, slots_of, users_in}
+use Rattle.descriptor_table.proofs.Common.{nexts_in, ◌∙◌, ap, get_or, waits, is_some, refl, sym, subst, rules, arith, set-set, chains_in, AreCounted, AreSound, Slot, slot_at, slots_in, layouts_of, removed_of, slots_of, users_in}
 use Rattle.descriptor_table.proofs.Chains.{listed_out}
 use Rattle.descriptor_table.proofs.Heads.{first, left_sound, more, still}
 use Rattle.descriptor_table.proofs.Listed.{slot_set}
-use Rattle.descriptor_table.proofs.Numbers.{few_users, joined_counted, there_user}
+use Rattle.descriptor_table.proofs.Numbers.{few_users, joined_counted}
 use Rattle.descriptor_table.proofs.Renewing.{vacant_is}
 use Rattle.descriptor_table.proofs.set_table.SetTable.fill.Goals as goal
 use Rattle.descriptor_table.proofs.Waiting.{near_nexts, queue_nexts}
@@ -24,15 +24,6 @@ fill-requires-clause-within g c = let s = c.args.self.now in search (rules, firs
 
 pub fill-requires-clause-empty : goal.fill-requires-clause-empty
 fill-requires-clause-empty g c = let s = c.args.self.now in search (rules, vacant_is, first s 0 c.requires.some s.lists.vacant refl)
-
-pub fill-requires-clause-next : goal.fill-requires-clause-next
-fill-requires-clause-next g c = ap (λ (s : Slot g.row.T.Denot). s.generation + 1) c.at-slot.ensures.slot
-
-pub fill-requires-clause-layout : goal.fill-requires-clause-layout
-fill-requires-clause-layout g c = let numbers = c.args.self.now.sound.numbers in let within = c.requires.layout.within in omega arith
-
-pub join-requires-clause-some : goal.join-requires-clause-some
-join-requires-clause-some g c = there_user c.args.self.now c.args.layout c.requires.layout
 
 pub join-requires-clause-few : goal.join-requires-clause-few
 join-requires-clause-few g c =

@@ -77,9 +77,3 @@ invariant_of-self-clause-counted g c = list_counted c.args.self.now (slots_in c.
 
 pub returns-clause-kept : goal.returns-clause-kept
 returns-clause-kept g c = search (rules, at g (goal.at.returns-clause-kept g c).After-first-place)
-
-pub returns-clause-fits : goal.returns-clause-fits
-returns-clause-fits g c = search (rules, slot_set, at g (goal.at.returns-clause-fits g c).After-first-place)
-
-pub returns-clause-stays : goal.returns-clause-stays
-returns-clause-stays g c = let s = c.args.self.now in record { settings = λ i. record { number = s.number; layouts = c.pop.ensures.layouts i; removed = c.pop.ensures.removed i; keep = s.keep }; space = c.enqueue.ensures.space ∙ c.renew-generation.ensures.writes.space }
