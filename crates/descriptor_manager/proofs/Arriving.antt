@@ -1,5 +1,5 @@
 -- What a slot is like after all kept sets went (`Clears`), and what slots may become when sets come to them (`Arrives`).
-use Rattle.descriptor_manager.proofs.Common.{common_steps, ◌≡◌, ℕ, ◌⊎◌, ne_eqb, Bool, true, List, None, refl, rules, ◌+◌, ◌&&◌, ◌||◌, not, [], Some, is_some, inl, sym, subst, arith, Ghosts, DescriptorSet, Slot, count, slot_at, in_list, waits_for, Settings, is_kept, is_held_use, Vacant, Use, none_count, AreCleaned, IsAtRest, SettlesTo}
+use Rattle.descriptor_manager.proofs.Common.{common_steps, ◌≡◌, ℕ, ◌⊎◌, ne_eqb, Bool, true, List, None, refl, rules, ◌+◌, ◌&&◌, ◌||◌, not, [], Some, is_some, inl, sym, subst, arith, Ghosts, CompactDescriptorSet, Slot, count, slot_at, in_list, waits_for, Settings, is_kept, is_held_use, Vacant, Use, none_count, AreCleaned, IsAtRest, SettlesTo}
 use Rattle.descriptor_manager.proofs.Common.{StoreStays, is_placed, slots_in, Store, false, length, inr, ap, goes, TurnEach, Turns, place_at, used_for, vacated, IsBack, SetHandle, Waits, named_or}
 
 -- a set that was kept may be gone, and any other is there
@@ -46,7 +46,7 @@ module _ {T : Type 0} where
 
 module _ {L P S D : Type 0} {d : Ghosts D L P S} where
   -- if each slot became what `Arrives` says, the store settles
-  pub arrived : {these : Settings} (comes : ℕ → DescriptorSet S → Type 0) (old new : Store L P S D d) → ((p : ℕ) → Arrives comes (slot_at (slots_in old) p) (slot_at (slots_in new) p)) → new.coming.items ≡ [] → IsAtRest old → StoreStays these old new → SettlesTo these comes old new
+  pub arrived : {these : Settings} (comes : ℕ → CompactDescriptorSet S → Type 0) (old new : Store L P S D d) → ((p : ℕ) → Arrives comes (slot_at (slots_in old) p) (slot_at (slots_in new) p)) → new.coming.items ≡ [] → IsAtRest old → StoreStays these old new → SettlesTo these comes old new
   arrived comes old new arrives none rest stays = grind (arith, common_steps)
 
 -- Each kind of change of a slot by which no set comes is one that `Arrives` allows: its set stays or leaves, and is at rest if it was.

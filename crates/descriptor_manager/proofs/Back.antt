@@ -1,15 +1,11 @@
 -- Sets that go back: those that are freed are kept, or leave their slots; then kept sets that all go, for `Store::cleanup`,
 -- `set_max_kept` and `free_all`; then all sets that leave, for `Store::free_all` and `SetManager::shutdown`.
-use Rattle.descriptor_manager.proofs.Common.{common_steps, ◌≡◌, ℕ, ◌+◌, ◌≤◌, ◌&&◌, ◌||◌, nat_lt, ne_eqb, Bool, true, false, List, is_some, ap, arith, rules, refl, ◌∙◌, ◌⊎◌, None, sets_in, Slot, count, goes, is_in, is_kept_of, slot_at, waits, IsBack, Becomes}
-use Rattle.descriptor_manager.proofs.Common.{MayBecome, Turns, is_kept, used_for, vacated, aged, holds, Kept, Going, Use, lists_apart, group_out, same_sets, kept_full, count_same, going_out, count_none, AreCleaned, ◌<◌, get_or, length, AreHeldOnce, TurnEach, place_at, SetHandle, held_is, named_or, suc, [], ◌∷◌}
-use Rattle.descriptor_manager.proofs.Common.{and-false, joined, none_count, is_placed}
+use Rattle.descriptor_manager.proofs.Common.{common_steps, ◌≡◌, ℕ, ◌+◌, ◌≤◌, ◌&&◌, ◌||◌, nat_lt, ne_eqb, Bool, true, false, List, is_some, ap, arith, rules, refl, ◌∙◌, ◌⊎◌, None, Option, filter_map, Slot, count, goes, is_in, is_kept_of, slot_at, waits, IsBack, Becomes}
+use Rattle.descriptor_manager.proofs.Common.{MayBecome, Turns, is_kept, used_for, vacated, aged, holds, Kept, Going, Use, lists_apart, group_out, kept_full, count_same, going_out, count_none, AreCleaned, ◌<◌, get_or, length, AreHeldOnce, TurnEach, place_at, SetHandle, held_is, suc, [], ◌∷◌}
+use Rattle.descriptor_manager.proofs.Common.{and-false, cons_option, none_count, is_placed}
 use Rattle.descriptor_manager.proofs.Arriving.{ArePlaced, follows_vacated, none_goes, Arrives, same_arrives}
 
 module _ {T : Type 0} where
-  -- the same sets are there, if each slot that turns has its set still
-  pub turned_sets : {test : Slot T → Bool} {becomes : List (Slot T) → Slot T → Slot T → Type 0} {old new : List (Slot T)} → Turns test becomes old new → ((o n : Slot T) → becomes new o n → n.set ≡ o.set) → sets_in new ≡ sets_in old
-  turned_sets t same = search (rules, same_sets)
-
   -- as many are kept when sets that go are returned
   pub given_kept : (mid new : List (Slot T)) → Turns goes (Becomes vacated) mid new → (k : ℕ) → 2 ≤ k → count (is_in k) new ≡ count (is_in k) mid
   given_kept mid new gives k two = search (rules, count_same, lists_apart, ne_eqb)
@@ -80,15 +76,6 @@ module _ {T : Type 0} (old new : List (Slot T)) (left : Turns (λ s. is_some s.s
 
 -- Held sets that are freed by their handles: for `Store::wait_each` and `free_each`.
 
--- the same sets are there, if each slot that turns has its set still
-pub each_sets : {T : Type 0} {handles : List SetHandle} {becomes : List (Slot T) → Slot T → Slot T → Type 0} {old new : List (Slot T)} → TurnEach handles becomes old new → ((o n : Slot T) → becomes new o n → n.set ≡ o.set) → sets_in new ≡ sets_in old
-each_sets {handles = handles} {old = old} {new} turns same = same_sets old new turns.long (λ p. grind (arith, common_steps, named_or (length handles) (place_at handles) p, turns.rest p))
-
--- also if none turned
-pub any_sets : {T : Type 0} {handles : List SetHandle} {becomes : List (Slot T) → Slot T → Slot T → Type 0} {old new : List (Slot T)} (b : Bool) → (b ≡ true → TurnEach handles becomes old new) → (b ≡ false → new ≡ old) → ((o n : Slot T) → becomes new o n → n.set ≡ o.set) → sets_in new ≡ sets_in old
-any_sets false turns none same = ap sets_in (none refl)
-any_sets true turns none same = each_sets (turns refl) same
-
 -- those that went were returned
 pub back_each :
     {T : Type 0} (handles : List SetHandle) (number : ℕ) (removed : ℕ → Bool) (max : ℕ) (old mid new : List (Slot T)) → AreHeldOnce number old handles → TurnEach handles (IsBack (used_for Going) removed max) old mid → ArePlaced old → Turns goes (Becomes vacated) mid new → TurnEach handles (IsBack vacated removed max) old new
@@ -105,13 +92,13 @@ back_each handles number removed max old mid new once settled placed gives = rec
 
 module _ {T : Type 0} where
   -- no slot has a set
-  pub no_sets : (slots : List (Slot T)) → ((p : ℕ) → p < length slots → (slot_at slots p).set ≡ None) → sets_in slots ≡ []
-  no_sets [] none = refl
-  no_sets (s ∷ slots) none = ap (λ o. joined o (sets_in slots)) (none 0 (omega arith)) ∙ no_sets slots (λ p within. none (suc p) (omega arith))
+  pub no_sets : {X : Type 0} (view : Slot T → Option X) (slots : List (Slot T)) → ((p : ℕ) → p < length slots → view (slot_at slots p) ≡ None) → filter_map view slots ≡ []
+  no_sets view [] none = refl
+  no_sets view (s ∷ slots) none = ap (λ o. cons_option o (filter_map view slots)) (none 0 (omega arith)) ∙ no_sets view slots (λ p within. none (suc p) (omega arith))
 
   -- with none held, and none that waits, no set is left
-  pub cleaned_empty : (old new : List (Slot T)) → ((p : ℕ) → is_placed (slot_at old p) ≡ true) → AreCleaned old new → count holds old ≡ 0 → count waits old ≡ 0 → length (sets_in new) ≡ 0
-  cleaned_empty old new placed cleaned held waiting = search (rules, count_none, no_sets)
+  pub cleaned_empty : {X : Type 0} (view : Slot T → Option X) → ((s : Slot T) → s.set ≡ None → view s ≡ None) → (old new : List (Slot T)) → ((p : ℕ) → is_placed (slot_at old p) ≡ true) → AreCleaned old new → count holds old ≡ 0 → count waits old ≡ 0 → length (filter_map view new) ≡ 0
+  cleaned_empty view empty old new placed cleaned held waiting = search (rules, count_none, no_sets)
 
   -- without a set none is held, and none waits
   pub none_used : (test : Use → Bool) (slots : List (Slot T)) → ((p : ℕ) → (slot_at slots p).set ≡ None) → count (λ s. test s.used && is_some s.set) slots ≡ 0

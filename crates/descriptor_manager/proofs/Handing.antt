@@ -1,6 +1,6 @@
 -- A set that comes to a use: for `hold_next`, `reuse`, `hold_last`, `LayoutRegistry::add` and `Joining`. `cleared_of`, `unmet_slots` and `refused_arrives`
 -- say what a refusal leaves. `o` is its slot before and `n` after, `p` its place, `u` the use, and `handle` the next one of the slot.
-use Rattle.descriptor_manager.proofs.Common.{common_steps, ◌≡◌, ◌≢◌, ℕ, ◌+◌, ◌<◌, true, List, [], ◌∷◌, length, length-set, test_within, is_some, refl, sym, ap, subst, ◌∙◌, arith, rules, Ghosts, DescriptorSet, AllocationError, Slot, count, frame_of, is_kept_of, is_live, slot_at, Puts, Renews, is_usable, renewed, SetHandle, Use, lists_apart}
+use Rattle.descriptor_manager.proofs.Common.{common_steps, ◌≡◌, ◌≢◌, ℕ, ◌+◌, ◌<◌, ◌⊎◌, Some, inl, inr, cases_eq, true, List, [], ◌∷◌, length, length-set, test_within, is_some, refl, sym, ap, subst, ◌∙◌, arith, rules, Ghosts, CompactDescriptorSet, AllocationError, Slot, count, frame_of, is_kept_of, is_live, slot_at, Puts, Renews, is_usable, AreAllUsed, renewed, SetHandle, Use, lists_apart}
 use Rattle.descriptor_manager.proofs.Common.{live_no_list, bit, count_set, same_count, other_slots, slot_set, kept_is, AreCleaned, ComesInto, HoldEach, IsCleared, IsRefusedAtLast, IsUnmet, slots_in, Store, Grows, named_or}
 use Rattle.descriptor_manager.proofs.Arriving.{Arrives, arrives_then, clears, clears_arrives, same_arrives}
 use Rattle.descriptor_manager.proofs.Naming.{is_free, kept_as, next_of}
@@ -28,6 +28,17 @@ module _ {T : Type 0} (number p : ℕ) (u : Use) (handle : SetHandle) where
   -- a set of the layout that was put into a slot did
   pub new_one : (layout : ℕ) (x : T) (old put new : List (Slot T)) → Puts layout x p old put → Renews number p u handle put new → HoldEach number layout u (handle ∷ []) old new
   new_one layout x old put new puts renews = search (rules, next_of, one, other_slots, slot_set)
+
+  -- all others were there
+  pub put_comes : (comes : ℕ → T → Type 0) (layout : ℕ) (x : T) (old put new : List (Slot T)) → Puts layout x p old put → Renews number p u handle put new → comes layout x → (q : ℕ) (y : T) → (slot_at new q).set ≡ Some y → (((slot_at old q).set ≡ Some y) × ((slot_at new q).layout ≡ (slot_at old q).layout)) ⊎ comes (slot_at new q).layout y
+  put_comes comes layout x old put new puts renews come q y is = search (rules, cases_eq, other_slots, slot_set)
+
+  -- and there are more slots only if all have sets
+  pub put_grows : (layout : ℕ) (x : T) (old put new : List (Slot T)) → is_live (frame_of u) true u ≡ true → Puts layout x p old put → Renews number p u handle put new → ((length new ≡ length old) ⊎ AreAllUsed old) → Grows old new
+  put_grows layout x old put new live puts renews grows = elim grows [
+    | inl same ↦ inl same
+    | inr used ↦ inr (λ q. search (rules, used q, cases_eq, other_slots, slot_set, live_no_list))
+  ]
 
   -- a kept set of the layout came to the use
   module _ (layout : ℕ) (old new : List (Slot T)) (was : is_kept_of layout (slot_at old p) ≡ true) (renews : Renews number p u handle old new) where
@@ -59,7 +70,7 @@ module _ {L P S D : Type 0} {d : Ghosts D L P S} where
   unmet_slots layout many error old new unmet = search rules
 
   -- a set was refused
-  pub refused_arrives : (comes : ℕ → DescriptorSet S → Type 0) (layout : L) (first last : ℕ) (error : AllocationError) (old new : Store L P S D d) → IsRefusedAtLast layout first last error old new → (q : ℕ) → Arrives comes (slot_at (slots_in old) q) (slot_at (slots_in new) q)
+  pub refused_arrives : (comes : ℕ → CompactDescriptorSet S → Type 0) (layout : L) (first last : ℕ) (error : AllocationError) (old new : Store L P S D d) → IsRefusedAtLast layout first last error old new → (q : ℕ) → Arrives comes (slot_at (slots_in old) q) (slot_at (slots_in new) q)
   refused_arrives comes layout first last error old new refused q = search (rules, arrives_then, cleared_of, clears, clears_arrives, same_arrives, unmet_slots)
 
 -- There are more slots only if each has a set, or had its last generation (`Grows`): for the calls of `Store` that give handles.

@@ -2,7 +2,7 @@
 -- The slots are `old` before the handles `a` are given, `mid` between, and `new` after the handles `b`; `x` and `y` say so of `a` and `b`.
 -- Handles are written into a list `now`, of which the first are given: those before the place `n`.
 use Rattle.descriptor_manager.proofs.Common.{common_steps, ◌≡◌, ◌≢◌, ℕ, ◌+◌, ◌-◌, ◌<◌, ◌⊎◌, ◌||◌, Bool, true, List, [], ◌++◌, length, get_or, Some, is_some, IsSome, inl, inr, refl, sym, ap, subst, ◌∙◌, arith, set, take, true≢false, rules, cases_lt, get_or-append-add, get_or_append_left}
-use Rattle.descriptor_manager.proofs.Common.{length-append, Ghosts, DescriptorSet, Slot, frame_of, is_kept_of, is_live, slot_at, waits_for, NameEach, find, is_given, sets_of, HasLayout, Settings, is_held_use, place_at, SetHandle, Use, named_or, ComesInto, HoldEach, Holds, KeepsStore}
+use Rattle.descriptor_manager.proofs.Common.{length-append, Ghosts, CompactDescriptorSet, Slot, frame_of, is_kept_of, is_live, slot_at, waits_for, NameEach, find, is_given, sets_of, HasLayout, AreAllOf, IsSetOf, Meaning, SetTable, Settings, settings_of, is_held_use, place_at, SetHandle, Use, named_or, ComesInto, HoldEach, Holds, KeepsStore}
 use Rattle.descriptor_manager.proofs.Common.{SetsCome, slots_in, Store, ◌∷◌, map, add-one, take-suc-set, get_or_default, take-map, AllFit, handles_long, handles_written, place_read}
 use Rattle.descriptor_manager.proofs.Arriving.{Arrives, Clears, arrives_then, clears_arrives, same_arrives, used_placed}
 use Rattle.descriptor_manager.proofs.Handing.{came_free, came_full, came_next, came_used, grow_more}
@@ -103,7 +103,7 @@ module _ {T : Type 0} where
 
 module _ {S : Type 0} where
   -- sets that came in two steps
-  pub sets_after : (first comes : ℕ → DescriptorSet S → Type 0) (old mid new : List (Slot (DescriptorSet S))) → ((n : ℕ) (x : DescriptorSet S) → first n x → comes n x) → SetsCome first old mid → SetsCome comes mid new → SetsCome comes old new
+  pub sets_after : (first comes : ℕ → CompactDescriptorSet S → Type 0) (old mid new : List (Slot (CompactDescriptorSet S))) → ((n : ℕ) (x : CompactDescriptorSet S) → first n x → comes n x) → SetsCome first old mid → SetsCome comes mid new → SetsCome comes old new
   sets_after first comes old mid new each a b p x e = search rules
 
 module _ {L P S D : Type 0} {d : Ghosts D L P S} where
@@ -115,7 +115,7 @@ module _ {L P S D : Type 0} {d : Ghosts D L P S} where
 
   -- a store that gave handles, after it gave others
   pub holds_after :
-      (first comes : ℕ → DescriptorSet S → Type 0) (number layout : ℕ) (u : Use) (handles : List SetHandle) (old mid new : Store L P S D d) → ((n : ℕ) (x : DescriptorSet S) → first n x → comes n x) → is_live (frame_of u) true u ≡ true
+      (first comes : ℕ → CompactDescriptorSet S → Type 0) (number layout : ℕ) (u : Use) (handles : List SetHandle) (old mid new : Store L P S D d) → ((n : ℕ) (x : CompactDescriptorSet S) → first n x → comes n x) → is_live (frame_of u) true u ≡ true
       → HoldEach number layout u handles (slots_in mid) (slots_in new) → Holds first old mid → Holds comes mid new → Holds comes old new
   holds_after first comes number layout u handles old mid new each live holds a b = record {
     side = b.side ∙ a.side;
@@ -124,12 +124,9 @@ module _ {L P S D : Type 0} {d : Ghosts D L P S} where
     stays = stays_then old mid new a.stays b.stays;
   }
 
-  pub layout_stays : (layout : ℕ) (old new : Store L P S D d) → KeepsStore old new → HasLayout layout old.table → HasLayout layout new.table
-  layout_stays layout old new stays has = record { within = subst (λ n. layout < n) (sym (ap (λ (s : Settings). s.layouts) stays.settings)) has.within; there = ap (λ (s : Settings). s.removed layout) stays.settings ∙ has.there }
-
   module _ (layout : ℕ) (u : Use) where
     -- the number is as it was
-    pub held_stays : (handles : List SetHandle) (mid new : List (Slot (DescriptorSet S))) (old now : Store L P S D d) → KeepsStore old now → HoldEach now.table.number layout u handles mid new → HoldEach old.table.number layout u handles mid new
+    pub held_stays : (handles : List SetHandle) (mid new : List (Slot (CompactDescriptorSet S))) (old now : Store L P S D d) → KeepsStore old now → HoldEach now.table.number layout u handles mid new → HoldEach old.table.number layout u handles mid new
     held_stays handles mid new old now stays holds = subst (λ number. HoldEach number layout u handles mid new) (ap (λ (s : Settings). s.number) stays.settings) holds
 
 -- Names that fit the sets in their slots, while other names are made: `n` says which handle each has.
@@ -156,3 +153,14 @@ module _ {N T : Type 0} (n : set_names.Ghosts N T) (each : (names : List N) → 
             (subst (λ l. HoldEach number layout u l mid new) (sym (each (x ∷ []))) b)
             fits (All-cons (λ z. n.fit z (slot_at new (n.handle_of z).place).set ≡ true) x [] here (All-nil (λ z. n.fit z (slot_at new (n.handle_of z).place).set ≡ true)))),
       )
+
+-- sets under a number are of the layout still if those that come are
+pub all_of_after : {L P S : Type 0} (means : Meaning L P S) (known : L) (layout : ℕ) (comes : ℕ → CompactDescriptorSet S → Type 0) (old new : List (Slot (CompactDescriptorSet S))) → ((n : ℕ) (x : CompactDescriptorSet S) → comes n x → IsSetOf means known x) → SetsCome comes old new → AreAllOf means known layout old → AreAllOf means known layout new
+all_of_after means known layout comes old new come sets own p x is at = elim (sets p x is) [
+  | inl there ↦ own p x there.0 (sym there.1 ∙ at)
+  | inr came ↦ come _ x came
+]
+
+-- a layout is there still if the settings are as they were
+pub layout_stays : {T : Type 0} (layout : ℕ) (old new : SetTable T) → settings_of new ≡ settings_of old → HasLayout layout old → HasLayout layout new
+layout_stays layout old new stays has = record { within = subst (λ n. layout < n) (sym (ap (λ (s : Settings). s.layouts) stays)) has.within; there = ap (λ (s : Settings). s.removed layout) stays ∙ has.there }

@@ -1,8 +1,8 @@
 -- The sets of a set manager stay of their layouts, and what refusals leave: each call of `SetManager` leaves `HasSetsOf`, its invariant.
 -- `slots` are those of sets, `layouts` those of layouts, `known` is a layout, and `n` or `number` the number of one.
-use Rattle.descriptor_manager.proofs.Common.{common_steps, ◌≡◌, ℕ, ◌⊎◌, Bool, false, true, List, length, Option, Some, None, inl, refl, ap, subst, ◌∙◌, arith, IfSome, IsOfLayout, Ghosts, AllocationError, SetLayout, DescriptorSet, IsMeant, Allocations, books_of, find, sets_of, Slot, is_set_of, slot_at, Settings, is_usable}
-use Rattle.descriptor_manager.proofs.Common.{layouts_of, settings_of, SetHandle, vacant_is, layout_at, layout_slots, registry_of, HasSetsOf, IsAtRest, IsRefusedAtLast, KeepsStore, NoneComes, SetsCome, SettlesTo, removed_in, slots_in, LayoutHandle, LayoutRegistry, Store, pools_for, seen, SetManager, true≢false, ◌≢◌, ◌<◌, []}
-use Rattle.descriptor_manager.proofs.Common.{◌∷◌, is_some, slice_index_or, if◌then◌else◌, sym, rules, eq-eqb, ne_eqb, ◌==◌, and-false, cases_eq, cases_lt, past_end, KeepsContents, pools_besides, side_of}
+use Rattle.descriptor_manager.proofs.Common.{common_steps, ◌≡◌, ℕ, ◌⊎◌, Bool, false, true, List, length, Option, Some, None, inl, inr, refl, ap, subst, ◌∙◌, arith, IfSome, IsSetOf, Ghosts, AllocationError, SetLayout, CompactDescriptorSet, IsMeant, Allocations, books_of, find, sets_of, Slot, is_set_of, slot_at, Settings, is_usable}
+use Rattle.descriptor_manager.proofs.Common.{layouts_of, settings_of, SetHandle, vacant_is, layout_at, layout_slots, registry_of, HasSetsOf, IsAtRest, IsRefusedAtLast, KeepsStore, NoneComes, SetsCome, SettlesTo, removed_in, slots_in, LayoutHandle, LayoutRegistry, Store, pools_for, seen, SetManager, true≢false, ◌≢◌}
+use Rattle.descriptor_manager.proofs.Common.{is_some, if◌then◌else◌, sym, eq-eqb, ne_eqb, ◌==◌, and-false, cases_eq, cases_lt, past_end, KeepsContents, pools_besides, side_of}
 use Rattle.gpu_descriptor_types.specs.Counts.{kinds}
 use Rattle.gpu_descriptor.specs.Caller.Flags.{is_marked}
 use Rattle.descriptor_manager.proofs.Handing.{unmet_slots}
@@ -17,12 +17,18 @@ module _ {L P S D : Type 0} {d : Ghosts D L P S} where
 
   -- sets stay, leave or come
   pub sets_as :
-      (comes : ℕ → DescriptorSet S → Type 0) (layouts more : List (Slot (SetLayout L))) (number : ℕ) (old new : Store L P S D d) → SetsCome comes (slots_in old) (slots_in new) → IsAtRest new
-      → ((n : ℕ) (x : DescriptorSet S) (known : SetLayout L) → comes n x → (slot_at more n).set ≡ Some known → IsOfLayout d.meaning known.layout x.raw)
+      (comes : ℕ → CompactDescriptorSet S → Type 0) (layouts more : List (Slot (SetLayout L))) (number : ℕ) (old new : Store L P S D d) → SetsCome comes (slots_in old) (slots_in new) → IsAtRest new
+      → ((n : ℕ) (x : CompactDescriptorSet S) (known : SetLayout L) → comes n x → (slot_at more n).set ≡ Some known → IsSetOf d.meaning known.layout x)
       → ((n : ℕ) → IsNumbered layouts more old new n) → layouts_of new.table ≡ length more → new.table.number ≡ old.table.number → HasSetsOf layouts number old → HasSetsOf more number new
   sets_as comes layouts more number old new sets rest own each numbers same was = record {
     rest = rest;
-    own = λ p x known full at. grind (arith, common_steps, sets p x full, each (slot_at (slots_in new) p).layout, was.own p x known, own (slot_at (slots_in new) p).layout x known);
+    own = λ n known at p x full is. elim (sets p x full) [
+      | inl there ↦ elim (each n) [
+        | inl same ↦ was.own n known (ap (λ (s : Slot (SetLayout L)). s.set) (sym same.0) ∙ at) p x there.0 (sym there.1 ∙ is)
+        | inr none ↦ absurd (grind (arith, common_steps))
+      ]
+      | inr come ↦ own n x known (subst (λ n. comes n x) is come) at
+    ];
     there = λ n some. grind (arith, common_steps, each n, was.there n);
     free = λ n usable. grind (arith, common_steps, each n, was.free n, vacant_is);
     numbers = numbers;
@@ -30,8 +36,8 @@ module _ {L P S D : Type 0} {d : Ghosts D L P S} where
   }
 
   pub sets_settle :
-      {max : ℕ} (comes : ℕ → DescriptorSet S → Type 0) (layouts : List (Slot (SetLayout L))) (number : ℕ) (old new : Store L P S D d) → SettlesTo (record (settings_of old.table) { keep = max }) comes old new
-      → ((n : ℕ) (x : DescriptorSet S) (known : SetLayout L) → comes n x → (slot_at layouts n).set ≡ Some known → IsOfLayout d.meaning known.layout x.raw) → HasSetsOf layouts number old → HasSetsOf layouts number new
+      {max : ℕ} (comes : ℕ → CompactDescriptorSet S → Type 0) (layouts : List (Slot (SetLayout L))) (number : ℕ) (old new : Store L P S D d) → SettlesTo (record (settings_of old.table) { keep = max }) comes old new
+      → ((n : ℕ) (x : CompactDescriptorSet S) (known : SetLayout L) → comes n x → (slot_at layouts n).set ≡ Some known → IsSetOf d.meaning known.layout x) → HasSetsOf layouts number old → HasSetsOf layouts number new
   sets_settle comes layouts number old new settles own was =
       let s = settles.stays.settings in
       sets_as comes layouts layouts number old new settles.sets settles.rest own (λ n. inl (refl, ap (λ (s : Settings). s.removed n) s)) (ap (λ (s : Settings). s.layouts) s ∙ was.numbers) (ap (λ (s : Settings). s.number) s) was
@@ -42,7 +48,7 @@ module _ {L P S D : Type 0} {d : Ghosts D L P S} where
 
   -- a refusal changes no names
   pub refused_names : (layout : L) (first last : ℕ) (error : AllocationError) (old new : Store L P S D d) → IsRefusedAtLast layout first last error old new → (number frame : ℕ) (opened : Bool) → sets_of number frame opened (slots_in new) ≡ sets_of number frame opened (slots_in old)
-  refused_names layout first last error old new refused number frame opened = grind (arith, common_steps, unmet_slots {d = d} layout, cleaned_names {T = DescriptorSet S} frame opened number)
+  refused_names layout first last error old new refused number frame opened = grind (arith, common_steps, unmet_slots {d = d} layout, cleaned_names {T = CompactDescriptorSet S} frame opened number)
 
 module _ {T : Type 0} where
   -- what a handle names is in its slot
@@ -112,10 +118,6 @@ module _ {L P S D : Type 0} {d : Ghosts D L P S} {layouts : List (Slot (SetLayou
   -- no set is of the next number
   pub next_unused : (s : Store L P S D d) → HasSetsOf layouts manager s → (p : ℕ) → is_set_of (length layouts) (slot_at (slots_in s) p) ≡ false
   next_unused s was p = grind (arith, common_steps, cases_lt p (length (slots_in s)), past_end (slots_in s) p, s.table.sound.known p, was.numbers, ne_eqb, and-false)
-
--- another handle isn't the one of the list
-pub apart_from : (slot other : SetHandle) → other ≢ slot → (i : ℕ) (d : SetHandle) → i < length (slot ∷ []) → slice_index_or (slot ∷ []) i d ≢ other
-apart_from slot other ne x3 d lt = search rules
 
 -- there is none
 pub gone : {X : Type 0} (o : Option X) → ((x : X) → o ≡ Some x → ⊥) → o ≡ None

@@ -1,14 +1,15 @@
 -- Requests that kept sets met, or kept and new ones, or none: for `Store::reuse`, `allocate`, `allocate_new`, `allocate_each` and `allocate_with_new`.
 use Rattle.std.proofs.Common.{below_more, below_none}
-use Rattle.descriptor_manager.specs.Stores.{Settles}
+use Rattle.std.proofs.lemmas.Option.{slice_get-get_or}
+use Rattle.descriptor_manager.specs.Stores.{CanTake, Settles}
 use Rattle.descriptor_manager.specs.Managers.{ComeEach, sets_by}
-use Rattle.descriptor_manager.proofs.Common.{common_steps, ◌≡◌, ℕ, ◌+◌, ◌-◌, ◌<◌, List, length, sym, ap, subst, ◌∙◌, arith, true≢false, Ghosts, AreOfLayout, Slot, count, is_kept_of, slot_at, count_none, none_count, AreCleaned, Asks, AsksAtLast, kept_of, slots_in, Store, ◌≤◌, true, [], Ok, Err, inl, refl, inr, Side, items_of, state_of}
-use Rattle.descriptor_manager.proofs.Common.{Allocations, Item, count_of, outstanding, AllocationError, sets_in, frame_of, is_live, place_at, SetHandle, Use, ComesOf, HoldEach, Holds, IsAtRest, IsRefusedAtLast, KeepsStore, NoneComes, Requests, side_of, slice_index_or, Result, Some, SetLayout, DescriptorSet, cases_lt}
+use Rattle.descriptor_manager.proofs.Common.{common_steps, ◌≡◌, ℕ, ◌+◌, ◌-◌, ◌<◌, List, length, sym, ap, subst, ◌∙◌, arith, true≢false, Ghosts, AreSetsOf, AreAllOf, IsMeant, test_within, counted, item_of, get_or, whole_sets, Slot, count, is_kept_of, slot_at, count_none, none_count, AreCleaned, Asks, AsksAtLast, kept_of, slots_in, Store, ◌≤◌, true, [], Ok, Err, inl, refl, inr, Side, items_of, state_of}
+use Rattle.descriptor_manager.proofs.Common.{Allocations, Item, count_of, outstanding, AllocationError, frame_of, is_live, place_at, SetHandle, Use, ComesOf, HoldEach, Holds, IsAtRest, IsRefusedAtLast, KeepsStore, NoneComes, Requests, side_of, slice_index_or, Result, Some, SetLayout, CompactDescriptorSet, cases_lt}
 use Rattle.descriptor_manager.proofs.Common.{◌∷◌, NameEach, sets_of, get_or_default, layout_at, layout_slots, HasSetsOf, LayoutHandle, SetManager, same_Some, Renews, Sets, Option, None, IfSome, is_some}
-use Rattle.descriptor_manager.proofs.Arriving.{Clears, clears, none_left, same_arrives, same_clears, arrived}
+use Rattle.descriptor_manager.proofs.Arriving.{Clears, clears, clears_arrives, none_left, same_arrives, same_clears, arrived}
 use Rattle.descriptor_manager.proofs.Handing.{came_layout, cleared_long, cleared_of, kept_long, kept_one, refused_arrives, unmet_slots, within}
 use Rattle.descriptor_manager.proofs.Naming.{kept_as}
-use Rattle.descriptor_manager.proofs.Joining.{held_stays, holds_arrives, sets_after, stays_then, store_same, are_named}
+use Rattle.descriptor_manager.proofs.Joining.{held_stays, all_of_after, holds_arrives, sets_after, stays_then, store_same, are_named}
 use Rattle.descriptor_manager.proofs.Owned.{found_set, if_some, layout_here, sets_settle}
 
 -- Sets that were asked for, and are on their way.
@@ -23,7 +24,7 @@ module _ {L P S D : Type 0} {d : Ghosts D L P S} where
     pub clear : (q : ℕ) → Clears (slot_at (slots_in old) q) (slot_at (slots_in new) q)
     pub long : length (slots_in new) ≡ length (slots_in old)
     pub besides : (i : ℕ) → i < many → i < kept_of number new → i + length new.coming.items < many
-    pub own : AreOfLayout d.meaning layout new.coming.items
+    pub own : AreSetsOf d.meaning layout new.coming.items
 
   module _ (layout : L) (number first many : ℕ) (old mid new : Store L P S D d) (clear : (q : ℕ) → Clears (slot_at (slots_in old) q) (slot_at (slots_in mid) q)) (long : length (slots_in mid) ≡ length (slots_in old)) where
     asked : ((i : ℕ) → i < many → i < kept_of number mid → i + first < many) → Asks layout first mid new → Brings layout number many old new
@@ -31,17 +32,29 @@ module _ {L P S D : Type 0} {d : Ghosts D L P S} where
       clear = λ q. subst (λ l. Clears (slot_at (slots_in old) q) (slot_at l q)) (sym asks.slots) (clear q);
       long = ap length asks.slots ∙ long;
       besides = λ i lt some. (let n = asks.hands_out.many in let same = ap (count (is_kept_of number)) asks.slots in let less = besides i lt (omega arith) in omega arith);
-      own = asks.own;
+      own = λ i x lt.
+          let item = item_of d.meaning.set_name (get_or new.coming.items i x) in
+          (asks.own i x lt, asks.hands_out.of_key item (counted d.meaning.set_name _ new.coming.items i (slice_get-get_or new.coming.items i x lt)));
     }
 
   -- what `Store::bring` leaves
   pub brought : (layout : L) (number many : ℕ) (old new : Store L P S D d) → kept_of number old < many → AsksAtLast layout (many - kept_of number old) many old new → Brings layout number many old new
-  brought layout number many old new few asks = grind (arith, common_steps, asked, cleared_long, cleared_of, clears, none_left_of, same_clears)
+  brought layout number many old new few asks = elim asks [
+    | inl now ↦ asked layout number (many - kept_of number old) many old old new (λ q. same_clears _ _ refl) refl (λ i lt some. omega arith) now
+    | inr again ↦
+        let cleaned = cleared_of layout (many - kept_of number old) many old again.0 again.1 in
+        let none = none_left_of (slots_in old) (slots_in again.0) cleaned number in
+        asked layout number many many old again.0 new (clears _ _ cleaned) (cleared_long layout (many - kept_of number old) many old again.0 again.1) (λ i lt some. absurd (omega arith)) again.2
+  ]
+
+  -- the sets that are left have their key still
+  pub still_all_of : (layout : L) (number many : ℕ) (old new : Store L P S D d) → Brings layout number many old new → AreAllOf d.meaning layout number (slots_in old) → AreAllOf d.meaning layout number (slots_in new)
+  still_all_of layout number many old new brings keyed = all_of_after d.meaning layout number NoneComes (slots_in old) (slots_in new) (λ n x none. absurd none) (λ p. (clears_arrives NoneComes _ _ (brings.clear p)).set) keyed
 
 -- the sets that were on their way are in the table if none is any more, and the device wasn't called
 pub gained :
     {L P S D : Type 0} {d : Ghosts D L P S} (ready new : Store L P S D d) → side_of new ≡ side_of ready → new.coming.items ≡ [] → (t : Item)
-    → count_of t (items_of d.meaning.set_name (sets_in (slots_in new))) ≡ count_of t (items_of d.meaning.set_name (sets_in (slots_in ready))) + count_of t (items_of d.meaning.set_name ready.coming.items)
+    → count_of t (items_of d.meaning.set_name (whole_sets new.table)) ≡ count_of t (items_of d.meaning.set_name (whole_sets ready.table)) + count_of t (items_of d.meaning.set_name ready.coming.items)
 gained {L} {P} {S} {D} {d} ready new side none t = omega (arith, ap (λ (s : Side (Allocations P)). outstanding (state_of d.meaning.pool_name s.value s.ledger) t) side, ap (λ l. count_of t (items_of d.meaning.set_name l)) none, ready.exact t, new.exact t)
 
 -- sets were kept or are on their way, and all have handles
@@ -120,7 +133,7 @@ module _ {L P S D : Type 0} {d : Ghosts D L P S} {R : Type 0} (known : L) (layou
   -- it refused them
   pub from_refused :
       (handles : List SetHandle) (error : AllocationError) → KeepsStore old asked → IsRefusedAtLast known (many - kept_of layout old) many error old asked → asked.coming.items ≡ []
-      → Requests {R = R} known layout many u handles (Err error) old asked
+      → Requests known layout many u handles {R = R} (Err error) old asked
   from_refused handles error stays refused none = record {
     takes = tt;
     kept = λ enough. absurd (omega arith);
@@ -134,6 +147,14 @@ module _ {L P S D : Type 0} {d : Ghosts D L P S} {R : Type 0} (known : L) (layou
 module _ {L P S D : Type 0} {d : Ghosts D L P S} (r : SetManager L P S D d) (layout : LayoutHandle) (known : SetLayout L) (place : ℕ) (at : place ≡ layout.slot.place) (found : layout_at r.layouts layout ≡ Some known) where
   here : (slot_at (layout_slots r.layouts) place).set ≡ Some known
   here = layout_here r.layouts layout known place at found
+
+  pub can_take : IsMeant d.meaning known → CanTake known place r.store
+  can_take meant = record {
+    meant = meant;
+    layout = record { within = omega (arith, r.sets.numbers, test_within (λ s. is_some s.set) (layout_slots r.layouts) place refl (ap is_some here)); there = r.sets.there place (ap is_some here) };
+    rest = r.sets.rest;
+    own = r.sets.own place known here;
+  }
 
   module _ {R : Type 0} (many : ℕ) (u : Use) (handles : List SetHandle) (new : Store L P S D d) where
     -- all sets are of their layouts then
@@ -155,13 +176,12 @@ module _ {L P S D : Type 0} {d : Ghosts D L P S} (r : SetManager L P S D d) (lay
             (are_named r.store.table.number place u handles (slots_in r.store) (slots_in requests.takes.ready) (slots_in new) clear requests.takes.holds r.frame r.is_open live));
         own = λ i e x lt is.
             let spot = ap (λ (h : SetHandle). h.place) (get_or_default handles i e (record { manager = 0; place = 0; generation = 0 }) lt) in
-            (sets_then (Ok result) requests).own (slice_index_or handles i e).place x known (found_set r.manager r.frame r.is_open (slots_in new) (slice_index_or handles i e) x (ap (λ (s : Sets (DescriptorSet S)). s.set (slice_index_or handles i e)) (sym same) ∙ is))
-            (ap (λ n. (slot_at (layout_slots r.layouts) n).set) (ap (λ p. (slot_at (slots_in new) p).layout) spot
-            ∙ came_layout place u (slot_at (slots_in requests.takes.ready) (place_at handles i)) (slot_at (slots_in new) (place_at handles i)) (requests.takes.holds.comes i lt)) ∙ here);
+            ((sets_then (Ok result) requests).own place known here (slice_index_or handles i e).place x (found_set r.manager r.frame r.is_open (slots_in new) (slice_index_or handles i e) x (ap (λ (s : Sets (CompactDescriptorSet S)). s.set (slice_index_or handles i e)) (sym same) ∙ is))
+            (ap (λ p. (slot_at (slots_in new) p).layout) spot ∙ came_layout place u (slot_at (slots_in requests.takes.ready) (place_at handles i)) (slot_at (slots_in new) (place_at handles i)) (requests.takes.holds.comes i lt))).0;
       })
 
   -- a request for one set is refused only if none is kept
-  pub one_refused : {R : Type 0} (u : Use) (handles : List SetHandle) (new : Store L P S D d) (error : AllocationError) → Requests {R = R} known.layout place 1 u handles (Err error) r.store new → IsRefusedAtLast known.layout 1 1 error r.store new
+  pub one_refused : {R : Type 0} (u : Use) (handles : List SetHandle) (new : Store L P S D d) (error : AllocationError) → Requests known.layout place 1 u handles {R = R} (Err error) r.store new → IsRefusedAtLast known.layout 1 1 error r.store new
   one_refused u handles new error requests = elim (cases_lt 0 (kept_of place r.store)) [
     | inl some ↦ absurd (true≢false (sym (requests.kept (omega arith)).0))
     | inr none ↦ subst (λ n. IsRefusedAtLast known.layout n 1 error r.store new) (omega arith) requests.refused

@@ -1,10 +1,10 @@
 -- The layouts of a registry, and whose handles they have.
-use Rattle.std.specs.Prelude.{ℕ, false, List, Option}
+use Rattle.std.specs.Prelude.{ℕ, false, Option}
 use Rattle.gpu_descriptor_types.specs.declared.device.DescriptorDevice.{Ghosts}
 use Rattle.gpu_descriptor.specs.declared.layout.SetLayout.{SetLayout}
 use Rattle.descriptor_table.specs.Sets.{Sets, sets_of}
 use Rattle.descriptor_table.specs.Handles.{values_of}
-use Rattle.descriptor_table.specs.Slots.{Slot}
+use Rattle.descriptor_table.specs.Slots.{Slots}
 use Rattle.descriptor_manager.specs.declared.layout_registry.LayoutHandle.{LayoutHandle}
 use Rattle.descriptor_manager.specs.declared.layout_registry.LayoutRegistry.{LayoutRegistry}
 
@@ -14,7 +14,7 @@ module _ {L P S D : Type 0} {d : Ghosts D L P S} where
   registry_of r = r.table.number
 
   -- the slots of the layouts
-  abbrev pub layout_slots : LayoutRegistry L P S D d → List (Slot (SetLayout L))
+  abbrev pub layout_slots : LayoutRegistry L P S D d → Slots (SetLayout L)
   layout_slots r = values_of r.table
 
   -- the layouts by handle: each is held, in no frame

@@ -3,3 +3,4 @@ pub mod LayoutRegistries
 pub mod Own
 pub mod Managers
 pub mod Stores
+pub mod WholeSets

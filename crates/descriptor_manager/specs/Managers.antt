@@ -8,11 +8,12 @@ use Rattle.gpu_descriptor.specs.Caller.Call.{layout_key}
 use Rattle.gpu_descriptor.specs.Caller.Values.{Allocations}
 use Rattle.gpu_descriptor.specs.Model.Books.{BucketOf, books_of}
 use Rattle.gpu_descriptor.specs.declared.layout.SetLayout.{SetLayout}
-use Rattle.gpu_descriptor.specs.declared.set.DescriptorSet.{DescriptorSet}
+use Rattle.gpu_descriptor.specs.declared.compact.CompactDescriptorSet.{CompactDescriptorSet}
 use Rattle.descriptor_table.specs.Handles.{HasPlace}
 use Rattle.descriptor_table.specs.Sets.{NameEach, Sets, sets_of}
 use Rattle.descriptor_table.specs.declared.handle.SetHandle.{SetHandle}
-use Rattle.descriptor_table.specs.Slots.{Slot, count, is_set_of, slot_at}
+use Rattle.descriptor_table.specs.Slots.{Slots, is_set_of, slot_at}
+use Rattle.descriptor_table.specs.Places.{count}
 use Rattle.descriptor_manager.specs.LayoutRegistries.{layout_at, layout_slots, layouts_by}
 use Rattle.descriptor_manager.specs.Stores as stores
 use Rattle.descriptor_manager.specs.declared.layout_registry.LayoutHandle.{LayoutHandle}
@@ -30,7 +31,7 @@ pub record Rendering (L P S : Type 0) : Type 0 where
   pub frame : ℕ
   pub is_open : Bool
   -- the slots of its sets, each with its layout and what it is in use for
-  pub slots : List (Slot (DescriptorSet S))
+  pub slots : Slots (CompactDescriptorSet S)
   -- whether a layout has the number. Else no set that is left under it is kept once it is freed
   pub has_layout : ℕ → Bool
   -- the max of the kept sets of a layout
@@ -43,7 +44,7 @@ pub record Rendering (L P S : Type 0) : Type 0 where
   pub bound : Option ℕ
 
 -- sets are left of each layout whose number may be used again, or a number gave its last handle
-abbrev pub NoneFree : {X T : Type 0} → List (Slot X) → List (Slot T) → Type 0
+abbrev pub NoneFree : {X T : Type 0} → Slots X → Slots T → Type 0
 NoneFree layouts slots = ((n : ℕ) → is_usable (slot_at layouts n) ≡ true → 0 < count (is_set_of n) slots) ⊎ ((n : ℕ) × ((slot_at layouts n).set ≡ None) × ((slot_at layouts n).generation ≡ 4294967295))
 
 -- a set manager over a device
@@ -56,7 +57,7 @@ module _ {L P S D : Type 0} {d : Ghosts D L P S} where
   store_of r = r.store
 
   -- the slots of the layouts
-  abbrev pub layouts_in : ManagerOver d → List (Slot (SetLayout L))
+  abbrev pub layouts_in : ManagerOver d → Slots (SetLayout L)
   layouts_in r = layout_slots r.layouts
 
   -- the layout of a handle; None if the layout was removed, or if the handle is another set manager's
@@ -72,11 +73,11 @@ module _ {L P S D : Type 0} {d : Ghosts D L P S} where
   is_open r = r.is_open
 
   -- the slots of all sets
-  abbrev pub slots_of : ManagerOver d → List (Slot (DescriptorSet S))
+  abbrev pub slots_of : ManagerOver d → Slots (CompactDescriptorSet S)
   slots_of r = stores.slots_in r.store
 
   -- the sets by handle: those that are held, and those of the open frame
-  abbrev pub sets_by : ManagerOver d → Sets (DescriptorSet S)
+  abbrev pub sets_by : ManagerOver d → Sets (CompactDescriptorSet S)
   sets_by r = sets_of r.manager r.frame r.is_open (slots_of r)
 
   -- how many sets of a layout are kept
@@ -119,7 +120,7 @@ module _ {L P S D : Type 0} {d : Ghosts D L P S} where
   -- sets of the layout have the handles, none of which was ever given; each other handle has the set that it had
   pub record ComeEach (layout : L) (handles : List SetHandle) (old new : ManagerOver d) : Type 0 where
     pub names : NameEach handles (sets_by old) (sets_by new)
-    pub own : (i : ℕ) (e : SetHandle) (x : DescriptorSet S) → i < length handles → (sets_by new).set (slice_index_or handles i e) ≡ Some x → IsOfLayout d.meaning layout x.raw
+    pub own : (i : ℕ) (e : SetHandle) (x : CompactDescriptorSet S) → i < length handles → (sets_by new).set (slice_index_or handles i e) ≡ Some x → IsOfLayout d.meaning layout x.raw
 
   -- only slots and pools change. On an error each handle has the set that it had, and there are more slots only if each has a set, or had its last generation
   pub record OnlySetsCome {R : Type 0} (result : Result R RequestError) (old new : ManagerOver d) : Type 0 where

@@ -2,7 +2,7 @@
 use Rattle.std.specs.Prelude.{◌≡◌, ◌≢◌, ℕ, ◌+◌, ◌-◌, ◌<◌, ◌≤◌, ◌⊎◌, ◌||◌, true, not, Bool, List, [], ◌∷◌, length, slice_index_or, if◌then◌else◌, is_some, Option, Result, Some, Ok, Err, None, IfErr, IsOk, OnOk}
 use Rattle.gpu_descriptor_types.specs.Ledger.{Pool}
 use Rattle.gpu_descriptor.specs.Caller.Others.{others_of}
-use Rattle.gpu_descriptor_types.specs.Meaning.{IsOfLayout, Meaning}
+use Rattle.gpu_descriptor_types.specs.Meaning.{Meaning}
 use Rattle.gpu_descriptor_types.specs.Side.{Side, side}
 use Rattle.gpu_descriptor_types.specs.declared.device.DescriptorDevice.{Ghosts}
 use Rattle.gpu_descriptor.specs.Caller.Call.{layout_key}
@@ -10,20 +10,22 @@ use Rattle.gpu_descriptor.specs.Caller.CleansUp.{Sweeps, TrimsKey}
 use Rattle.gpu_descriptor.specs.Caller.Frees.{Returns}
 use Rattle.gpu_descriptor.specs.Caller.HandsOut.{HandsOut}
 use Rattle.gpu_descriptor.specs.Caller.SetLayouts.{IsMeant}
-use Rattle.gpu_descriptor.specs.Caller.Sets.{AreOfLayout, items_of}
+use Rattle.gpu_descriptor.specs.Caller.Sets.{AreOfLayout, IsSetOf, items_of}
 use Rattle.gpu_descriptor.specs.Caller.Values.{Allocations}
 use Rattle.gpu_descriptor.specs.Model.Agreement.{Item, count_of}
 use Rattle.gpu_descriptor.specs.Model.Load.{set_descriptors}
 use Rattle.gpu_descriptor.specs.declared.errors.AllocationError.{AllocationError}
 use Rattle.gpu_descriptor.specs.declared.errors.AllocationError.TheVariants.{OutOfHostMemory}
 use Rattle.gpu_descriptor.specs.declared.layout.SetLayout.{SetLayout}
+use Rattle.gpu_descriptor.specs.declared.compact.CompactDescriptorSet.{CompactDescriptorSet}
 use Rattle.gpu_descriptor.specs.declared.set.DescriptorSet.{DescriptorSet}
-use Rattle.descriptor_table.specs.Sets.{sets_in}
-use Rattle.descriptor_table.specs.Slots.{count, filled, is_kept_of, slot_at, waits}
+use Rattle.descriptor_table.specs.Slots.{filled, is_kept_of, slot_at, waits}
+use Rattle.descriptor_table.specs.Places.{count}
 use Rattle.descriptor_table.specs.Tables.{Becomes, Grows, HasLayout, HasRoom, IsBack, Settings, Turns, aged, holds, is_kept, is_usable, place_at, removed_of, removed_as, settings_of, renewed, slots_of, vacated}
 use Rattle.descriptor_table.specs.declared.handle.SetHandle.{SetHandle}
-use Rattle.descriptor_table.specs.Slots.{Slot}
+use Rattle.descriptor_table.specs.Slots.{Slot, Slots}
 use Rattle.descriptor_table.specs.declared.slot.Use.{Use}
+use Rattle.descriptor_manager.specs.WholeSets.{whole_sets}
 use Rattle.descriptor_manager.specs.declared.store.Store.{Store}
 
 -- whether a slot has no set, or a set that is held, that waits for a frame, or that is kept
@@ -31,7 +33,7 @@ abbrev pub is_placed : {T : Type 0} → Slot T → Bool
 is_placed s = not (is_some s.set) || (holds s || (waits s || is_kept s))
 
 -- all kept sets left their slots, and no set that is left is kept once it is freed
-abbrev pub AreCleaned : {T : Type 0} → List (Slot T) → List (Slot T) → Type 0
+abbrev pub AreCleaned : {T : Type 0} → Slots T → Slots T → Type 0
 AreCleaned {T} = Turns (λ s. true) (Becomes (λ (s : Slot T). if is_kept s then vacated (aged s) else aged s))
 
 -- a kept set of the layout, or one of it that came into a vacant slot, is in this use, under the next handle of the slot
@@ -39,7 +41,7 @@ abbrev pub ComesInto : {T : Type 0} → ℕ → Use → Slot T → Slot T → Ty
 ComesInto {T} layout u o n = ((is_kept_of layout o ≡ true) × (n ≡ renewed u o)) ⊎ ((o.set ≡ None) × (x : T) × (n ≡ renewed u (filled layout x o)))
 
 -- sets that were kept or are new are in this use under the handles, and all else is as it was
-pub record HoldEach {T : Type 0} (number layout : ℕ) (u : Use) (handles : List SetHandle) (old new : List (Slot T)) : Type 0 where
+pub record HoldEach {T : Type 0} (number layout : ℕ) (u : Use) (handles : List SetHandle) (old new : Slots T) : Type 0 where
   -- no two have one place
   pub apart : (i j : ℕ) → i < j → j < length handles → place_at handles i ≢ place_at handles j
   -- each is the next handle of its slot
@@ -53,12 +55,8 @@ handles_in (Ok handle) = handle ∷ []
 handles_in (Err error) = []
 
 -- no set is new
-abbrev pub NoneComes : {S : Type 0} → ℕ → DescriptorSet S → Type 0
+abbrev pub NoneComes : {S : Type 0} → ℕ → CompactDescriptorSet S → Type 0
 NoneComes layout x = ⊥
-
--- each new set is of this layout
-abbrev pub ComesOf : {L P S : Type 0} → Meaning L P S → L → ℕ → ℕ → DescriptorSet S → Type 0
-ComesOf means known layout other x = (other ≡ layout) × IsOfLayout means known x.raw
 
 -- one free_from returned sets to their pools, if there were any
 pub record GaveBack {L P S : Type 0} (means : Meaning L P S) (old new : Side (Allocations P)) : Type 0 where
@@ -67,8 +65,17 @@ pub record GaveBack {L P S : Type 0} (means : Meaning L P S) (old new : Side (Al
 
 module _ {S : Type 0} where
   -- each set was in its slot before, under its layout, or passes the test
-  abbrev pub SetsCome : (ℕ → DescriptorSet S → Type 0) → List (Slot (DescriptorSet S)) → List (Slot (DescriptorSet S)) → Type 0
-  SetsCome comes old new = (p : ℕ) (x : DescriptorSet S) → (slot_at new p).set ≡ Some x → (((slot_at old p).set ≡ Some x) × ((slot_at new p).layout ≡ (slot_at old p).layout)) ⊎ comes (slot_at new p).layout x
+  abbrev pub SetsCome : (ℕ → CompactDescriptorSet S → Type 0) → Slots (CompactDescriptorSet S) → Slots (CompactDescriptorSet S) → Type 0
+  SetsCome comes old new = (p : ℕ) (x : CompactDescriptorSet S) → (slot_at new p).set ≡ Some x → (((slot_at old p).set ≡ Some x) × ((slot_at new p).layout ≡ (slot_at old p).layout)) ⊎ comes (slot_at new p).layout x
+
+module _ {L P S : Type 0} (means : Meaning L P S) (known : L) (layout : ℕ) where
+  -- each new set is of this layout
+  abbrev pub ComesOf : ℕ → CompactDescriptorSet S → Type 0
+  ComesOf other x = (other ≡ layout) × IsSetOf means known x
+
+  -- each set under the number is of this layout
+  abbrev pub AreAllOf : Slots (CompactDescriptorSet S) → Type 0
+  AreAllOf slots = (p : ℕ) (x : CompactDescriptorSet S) → (slot_at slots p).set ≡ Some x → (slot_at slots p).layout ≡ layout → IsSetOf means known x
 
 -- a store over a device
 abbrev pub StoreOver : {L P S D : Type 0} → Ghosts D L P S → Type 0
@@ -76,7 +83,7 @@ StoreOver {L} {P} {S} {D} d = Store L P S D d
 
 module _ {L P S D : Type 0} {d : Ghosts D L P S} where
   -- the slots of the store's table
-  abbrev pub slots_in : StoreOver d → List (Slot (DescriptorSet S))
+  abbrev pub slots_in : StoreOver d → Slots (CompactDescriptorSet S)
   slots_in s = slots_of s.table
 
   -- the allocator, and the ledger of the device
@@ -118,13 +125,13 @@ module _ {L P S D : Type 0} {d : Ghosts D L P S} where
     pub coming : new.coming.items ≡ old.coming.items
 
   -- each set was in its slot before, under its layout, or passes the test; none is on its way into the table
-  pub record SettlesTo (these : Settings) (comes : ℕ → DescriptorSet S → Type 0) (old new : StoreOver d) : Type 0 where
+  pub record SettlesTo (these : Settings) (comes : ℕ → CompactDescriptorSet S → Type 0) (old new : StoreOver d) : Type 0 where
     pub sets : SetsCome comes (slots_in old) (slots_in new)
     pub rest : IsAtRest new
     pub stays : StoreStays these old new
 
   -- the same, with the settings as they were
-  abbrev pub Settles : (ℕ → DescriptorSet S → Type 0) → StoreOver d → StoreOver d → Type 0
+  abbrev pub Settles : (ℕ → CompactDescriptorSet S → Type 0) → StoreOver d → StoreOver d → Type 0
   Settles comes old new = SettlesTo (settings_of old.table) comes old new
 
   -- sets of the layout, which has this number, may be requested
@@ -132,22 +139,13 @@ module _ {L P S D : Type 0} {d : Ghosts D L P S} where
     pub meant : IsMeant d.meaning known
     pub layout : HasLayout number s.table
     pub rest : IsAtRest s
+    pub own : AreAllOf d.meaning known.layout number (slots_in s)
 
   -- sets returned to their pools, and then all empty pools were destroyed
   pub record Cleans (old new : StoreOver d) : Type 0 where
     pub mid : Side (Allocations P)
     pub back : GaveBack d.meaning (side_of old) mid
     pub cleans : Sweeps true d.meaning mid (side_of new)
-
-  -- `many` sets of the layout alone have more descriptors than the limit allows
-  abbrev pub ExceedsLimitAlone : L → ℕ → StoreOver d → Type 0
-  ExceedsLimitAlone known many s = s.allocator.limit < set_descriptors (layout_key d.meaning known) many
-
-  -- the allocator refused `many` sets, for which the table had room. All slots are as they were
-  pub record IsRefused (known : L) (many : ℕ) (error : AllocationError) (old new : StoreOver d) : Type 0 where
-    pub slots : slots_in new ≡ slots_in old
-    pub room : HasRoom many new.table
-    pub hands_out : HandsOut d.meaning (layout_key d.meaning known) many (Err error) (side_of old) (side_of new)
 
   -- the table had no room for `many` sets, and an allocation for more slots failed. The allocator was not asked
   pub record LacksRoom (many : ℕ) (error : AllocationError) (old new : StoreOver d) : Type 0 where
@@ -156,81 +154,96 @@ module _ {L P S D : Type 0} {d : Ghosts D L P S} where
     pub full : count is_usable (slots_in old) < many
     pub contents : KeepsContents old new
 
-  -- a request for `many` sets failed: the allocator refused them, or the table had no room
-  abbrev pub IsUnmet : L → ℕ → AllocationError → StoreOver d → StoreOver d → Type 0
-  IsUnmet known many error old new = IsRefused known many error old new ⊎ LacksRoom many error old new
-
-  -- the allocator refused the first of two requests while some sets were kept. Then all kept sets returned to their pools, and all empty pools were destroyed
-  pub record IsCleared (known : L) (first last : ℕ) (old new : StoreOver d) : Type 0 where
-    pub some : 0 < count is_kept (slots_in old)
-    -- the limit allows the sets of the second request
-    pub fits : ¬ (ExceedsLimitAlone known last old)
-    pub refused : StoreOver d
-    pub error : AllocationError
-    pub first_refused : IsRefused known first error old refused
-    pub cleaned : AreCleaned (slots_in refused) (slots_in new)
-    pub cleans : Cleans refused new
-
-  -- the request for the first number of sets failed, or, after a cleanup, the one for the last
-  pub record IsRefusedAtLast (known : L) (first last : ℕ) (error : AllocationError) (old new : StoreOver d) : Type 0 where
-    -- no set is kept, unless the second request alone exceeds the limit, or the table had no room for the first
-    pub none : (count is_kept (slots_in new) ≡ 0) ⊎ ExceedsLimitAlone known last old ⊎ LacksRoom first error old new
-    pub why : IsUnmet known first error old new ⊎ ((mid : StoreOver d) × IsCleared known first last old mid × IsUnmet known last error mid new)
-
-  -- the allocator gave `many` sets of the layout, which are on their way into the table
-  pub record Asks (known : L) (many : ℕ) (old new : StoreOver d) : Type 0 where
-    pub slots : slots_in new ≡ slots_in old
-    pub own : AreOfLayout d.meaning known new.coming.items
-    pub hands_out : HandsOut d.meaning (layout_key d.meaning known) many (Ok new.coming.items) (side_of old) (side_of new)
-
-  -- the allocator gave the first number of sets at once, or the last after all kept sets returned to their pools
-  abbrev pub AsksAtLast : L → ℕ → ℕ → StoreOver d → StoreOver d → Type 0
-  AsksAtLast known first last old new = Asks known first old new ⊎ ((mid : StoreOver d) × IsCleared known first last old mid × Asks known last mid new)
-
   -- the slots became what the relation says, and one free_from returned sets to their pools, if there were any
-  pub record FreesSets (becomes : List (Slot (DescriptorSet S)) → List (Slot (DescriptorSet S)) → Type 0) (old new : StoreOver d) : Type 0 where
+  pub record FreesSets (becomes : Slots (CompactDescriptorSet S) → Slots (CompactDescriptorSet S) → Type 0) (old new : StoreOver d) : Type 0 where
     pub turns : becomes (slots_in old) (slots_in new)
     pub back : GaveBack d.meaning (side_of old) (side_of new)
 
   -- a set that is freed is kept, or left its slot
-  abbrev pub IsFreed : StoreOver d → List (Slot (DescriptorSet S)) → Slot (DescriptorSet S) → Slot (DescriptorSet S) → Type 0
+  abbrev pub IsFreed : StoreOver d → Slots (CompactDescriptorSet S) → Slot (CompactDescriptorSet S) → Slot (CompactDescriptorSet S) → Type 0
   IsFreed s = IsBack vacated (removed_in s) s.table.keep
 
-  -- one free_from returned the kept sets of the layout to their pools, if there were any, and all other slots are as they were. Then the empty pools of its key were destroyed
-  pub record Removes (known : L) (layout : ℕ) (old new : StoreOver d) : Type 0 where
-    pub turns : Turns (is_kept_of layout) (Becomes vacated) (slots_in old) (slots_in new)
-    -- so a set that is left under the number isn't kept once it is freed
-    pub removed : removed_in new ≡ removed_as true layout (removed_in old)
-    pub mid : Side (Allocations P)
-    pub back : GaveBack d.meaning (side_of old) mid
-    -- the sets that were there are the returned ones and those that are left
-    pub gave : (t : Item) → count_of t (items_of d.meaning.set_name (sets_in (slots_in old))) ≡ count_of t (items_of d.meaning.set_name back.sets) + count_of t (items_of d.meaning.set_name (sets_in (slots_in new)))
-    pub trims : TrimsKey d.meaning (layout_key d.meaning known) mid (side_of new)
-
-  -- `many` sets of the layout are in this use under the handles: kept ones first, and then new ones from the allocator
-  pub record Takes (known : L) (layout many : ℕ) (u : Use) (handles : List SetHandle) (old new : StoreOver d) : Type 0 where
-    -- the store once the new sets are on their way into the table
-    pub ready : StoreOver d
-    pub enough : many ≤ kept_of layout old → ready ≡ old
-    pub asks : kept_of layout old < many → AsksAtLast known (many - kept_of layout old) many old ready
-    pub kept_first : (i : ℕ) → i < length handles → i < kept_of layout ready → is_kept_of layout (slot_at (slots_in ready) (place_at handles i)) ≡ true
-    pub holds : HoldEach old.table.number layout u handles (slots_in ready) (slots_in new)
-    pub side : side_of new ≡ side_of ready
-    -- the sets that were on their way are in the table
-    pub gained : (t : Item) → count_of t (items_of d.meaning.set_name (sets_in (slots_in new))) ≡ count_of t (items_of d.meaning.set_name (sets_in (slots_in ready))) + count_of t (items_of d.meaning.set_name ready.coming.items)
-
-  -- a request for `many` sets of the layout in this use: the handles name them, or it is refused
-  pub record Requests {R : Type 0} (known : L) (layout many : ℕ) (u : Use) (handles : List SetHandle) (result : Result R AllocationError) (old new : StoreOver d) : Type 0 where
-    pub takes : OnOk result (Takes known layout many u handles old new)
-    -- if as many are kept the device isn't called
-    pub kept : many ≤ kept_of layout old → IsOk result × (side_of new ≡ side_of old) × (length (slots_in new) ≡ length (slots_in old))
-    pub refused : IfErr result (λ error. IsRefusedAtLast known (many - kept_of layout old) many error old new)
-    pub settles : Settles (ComesOf d.meaning known layout) old new
-    pub grows : Grows (slots_in old) (slots_in new)
-
   -- sets are held without a call of the device: each was in its slot before, or passes the test
-  pub record Holds (comes : ℕ → DescriptorSet S → Type 0) (old new : StoreOver d) : Type 0 where
+  pub record Holds (comes : ℕ → CompactDescriptorSet S → Type 0) (old new : StoreOver d) : Type 0 where
     pub side : side_of new ≡ side_of old
     pub sets : SetsCome comes (slots_in old) (slots_in new)
     pub grows : Grows (slots_in old) (slots_in new)
     pub stays : KeepsStore old new
+
+  -- requests for sets of a layout, and its removal
+  module _ (known : L) where
+    -- `many` sets of the layout alone have more descriptors than the limit allows
+    abbrev pub ExceedsLimitAlone : ℕ → StoreOver d → Type 0
+    ExceedsLimitAlone many s = s.allocator.limit < set_descriptors (layout_key d.meaning known) many
+
+    -- the allocator refused `many` sets, for which the table had room. All slots are as they were
+    pub record IsRefused (many : ℕ) (error : AllocationError) (old new : StoreOver d) : Type 0 where
+      pub slots : slots_in new ≡ slots_in old
+      pub room : HasRoom many new.table
+      pub hands_out : HandsOut d.meaning (layout_key d.meaning known) many (Err error) (side_of old) (side_of new)
+
+    -- a request for `many` sets failed: the allocator refused them, or the table had no room
+    abbrev pub IsUnmet : ℕ → AllocationError → StoreOver d → StoreOver d → Type 0
+    IsUnmet many error old new = IsRefused many error old new ⊎ LacksRoom many error old new
+
+    -- the allocator gave `many` sets of the layout, which are on their way into the table
+    pub record Asks (many : ℕ) (old new : StoreOver d) : Type 0 where
+      pub slots : slots_in new ≡ slots_in old
+      pub own : AreOfLayout d.meaning known new.coming.items
+      pub hands_out : HandsOut d.meaning (layout_key d.meaning known) many (Ok new.coming.items) (side_of old) (side_of new)
+
+    -- one request for the first number of sets, and one for the last
+    module _ (first last : ℕ) where
+      -- the allocator refused the first of two requests while some sets were kept. Then all kept sets returned to their pools, and all empty pools were destroyed
+      pub record IsCleared (old new : StoreOver d) : Type 0 where
+        pub some : 0 < count is_kept (slots_in old)
+        -- the limit allows the sets of the second request
+        pub fits : ¬ (ExceedsLimitAlone last old)
+        pub refused : StoreOver d
+        pub error : AllocationError
+        pub first_refused : IsRefused first error old refused
+        pub cleaned : AreCleaned (slots_in refused) (slots_in new)
+        pub cleans : Cleans refused new
+
+      -- the request for the first number of sets failed, or, after a cleanup, the one for the last
+      pub record IsRefusedAtLast (error : AllocationError) (old new : StoreOver d) : Type 0 where
+        -- no set is kept, unless the second request alone exceeds the limit, or the table had no room for the first
+        pub none : (count is_kept (slots_in new) ≡ 0) ⊎ ExceedsLimitAlone last old ⊎ LacksRoom first error old new
+        pub why : IsUnmet first error old new ⊎ ((mid : StoreOver d) × IsCleared old mid × IsUnmet last error mid new)
+
+      -- the allocator gave the first number of sets at once, or the last after all kept sets returned to their pools
+      abbrev pub AsksAtLast : StoreOver d → StoreOver d → Type 0
+      AsksAtLast old new = Asks first old new ⊎ ((mid : StoreOver d) × IsCleared old mid × Asks last mid new)
+
+    -- one free_from returned the kept sets of the layout to their pools, if there were any, and all other slots are as they were. Then the empty pools of its key were destroyed
+    pub record Removes (layout : ℕ) (old new : StoreOver d) : Type 0 where
+      pub turns : Turns (is_kept_of layout) (Becomes vacated) (slots_in old) (slots_in new)
+      -- so a set that is left under the number isn't kept once it is freed
+      pub removed : removed_in new ≡ removed_as true layout (removed_in old)
+      pub mid : Side (Allocations P)
+      pub back : GaveBack d.meaning (side_of old) mid
+      -- the sets that were there are the returned ones and those that are left
+      pub gave : (t : Item) → count_of t (items_of d.meaning.set_name (whole_sets old.table)) ≡ count_of t (items_of d.meaning.set_name back.sets) + count_of t (items_of d.meaning.set_name (whole_sets new.table))
+      pub trims : TrimsKey d.meaning (layout_key d.meaning known) mid (side_of new)
+
+    module _ (layout many : ℕ) (u : Use) (handles : List SetHandle) where
+      -- `many` sets of the layout are in this use under the handles: kept ones first, and then new ones from the allocator
+      pub record Takes (old new : StoreOver d) : Type 0 where
+        -- the store once the new sets are on their way into the table
+        pub ready : StoreOver d
+        pub enough : many ≤ kept_of layout old → ready ≡ old
+        pub asks : kept_of layout old < many → AsksAtLast (many - kept_of layout old) many old ready
+        pub kept_first : (i : ℕ) → i < length handles → i < kept_of layout ready → is_kept_of layout (slot_at (slots_in ready) (place_at handles i)) ≡ true
+        pub holds : HoldEach old.table.number layout u handles (slots_in ready) (slots_in new)
+        pub side : side_of new ≡ side_of ready
+        -- the sets that were on their way are in the table
+        pub gained : (t : Item) → count_of t (items_of d.meaning.set_name (whole_sets new.table)) ≡ count_of t (items_of d.meaning.set_name (whole_sets ready.table)) + count_of t (items_of d.meaning.set_name ready.coming.items)
+
+      -- a request for `many` sets of the layout in this use: the handles name them, or it is refused
+      pub record Requests {R : Type 0} (result : Result R AllocationError) (old new : StoreOver d) : Type 0 where
+        pub takes : OnOk result (Takes old new)
+        -- if as many are kept the device isn't called
+        pub kept : many ≤ kept_of layout old → IsOk result × (side_of new ≡ side_of old) × (length (slots_in new) ≡ length (slots_in old))
+        pub refused : IfErr result (λ error. IsRefusedAtLast (many - kept_of layout old) many error old new)
+        pub settles : Settles (ComesOf d.meaning known layout) old new
+        pub grows : Grows (slots_in old) (slots_in new)

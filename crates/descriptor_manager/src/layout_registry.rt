@@ -43,7 +43,7 @@ pub struct LayoutRegistry<L, P, S, D: DescriptorDevice<L, P, S>> {
         → IsMeant D.meaning known },
 }
 
-impl<L, P, S, D: DescriptorDevice<L, P, S>> LayoutRegistry<L, P, S, D> {
+impl<L: Drop, P, S, D: DescriptorDevice<L, P, S>> LayoutRegistry<L, P, S, D> {
     ghost use Rattle.descriptor_table.specs.Sets.{LoseNames, NameEach};
     ghost use Rattle.descriptor_manager.specs.LayoutRegistries.{layout_at, layout_slots, layouts_by};
     ghost use Rattle.descriptor_manager.specs.LayoutRegistries.{registry_of};

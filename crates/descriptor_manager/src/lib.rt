@@ -6,6 +6,7 @@
 mod errors;
 mod layout_registry;
 mod manager;
+mod returning;
 mod store;
 
 pub use descriptor_table::{SetHandle, SetName};

@@ -4,7 +4,8 @@ ghost use Rattle.std.specs.Prelude.{IfErr, IfOk, IsErrOf, IsOk, IsSome, None, On
 ghost use Rattle.std.specs.Option.{option_copied};
 ghost use Rattle.gpu_descriptor.specs.Caller.CleansUp.{Sweeps};
 ghost use Rattle.gpu_descriptor.specs.Caller.SetLayouts.{IsMeant};
-ghost use Rattle.descriptor_table.specs.Slots.{count, is_kept_of, is_set_of, slot_at, waits};
+ghost use Rattle.descriptor_table.specs.Slots.{is_kept_of, is_set_of, slot_at, waits};
+ghost use Rattle.descriptor_table.specs.Places.{count};
 ghost use Rattle.descriptor_table.specs.Tables.{MayBecome, Turns, holds, is_kept};
 ghost use Rattle.descriptor_table.specs.Tables.{vacated};
 ghost use Rattle.descriptor_manager.specs.LayoutRegistries.{layout_slots, registry_of};

@@ -3,14 +3,16 @@ ghost use Rattle.std.specs.Prelude.{◌≡◌, ◌≤◌, ◌+◌, ◌<◌, ◌�
 ghost use Rattle.std.specs.Option.{option_copied};
 ghost use Rattle.gpu_descriptor.specs.Caller.Flags as flags;
 ghost use Rattle.gpu_descriptor.specs.Caller.SetLayouts.{IsMeant};
-ghost use Rattle.gpu_descriptor.specs.Caller.Sets.{items_of, raw_of};
+ghost use Rattle.gpu_descriptor.specs.Caller.Sets.{items_of, raw_in};
 ghost use Rattle.gpu_descriptor.specs.Caller.States.{Agrees, outstanding_of, state_of};
 ghost use Rattle.gpu_descriptor.specs.Model.Agreement.{Item, count_of, outstanding};
 ghost use Rattle.gpu_descriptor.proofs.callers.OneAgreement.{Agrees-prop};
-ghost use Rattle.descriptor_table.specs.Sets.{find, sets_in};
-ghost use Rattle.descriptor_table.specs.Slots.{count, waits};
+ghost use Rattle.descriptor_table.specs.Sets.{find};
+ghost use Rattle.descriptor_table.specs.Slots.{waits};
+ghost use Rattle.descriptor_table.specs.Places.{count};
 ghost use Rattle.descriptor_table.specs.Tables.{AreNoneFree, HasLayout, HasListRoom, HasRoom, OnlySettings, Renewed, holds, is_kept};
-ghost use Rattle.descriptor_table.specs.Tables.{layouts_of, settings_of, slots_of};
+ghost use Rattle.descriptor_table.specs.Tables.{layouts_of, settings_of};
+ghost use Rattle.descriptor_manager.specs.WholeSets.{whole_sets};
 
 mod back;
 mod hold;
@@ -19,7 +21,7 @@ mod request;
 use bitflags::Flags;
 use descriptor_table::{SetHandle, SetTable};
 use gpu_descriptor::{
-    AllocationError, DescriptorAllocator, DescriptorDevice, DescriptorSet,
+    AllocationError, CompactDescriptorSet, DescriptorAllocator, DescriptorDevice, DescriptorSet,
     DescriptorSetLayoutCreateFlags, SetLayout,
 };
 use std::alloc::{AllocError, Global};
@@ -33,7 +35,7 @@ const MAX_POOL_DESCRIPTORS: u64 = 65_536;
 #[derive(Drop)]
 pub(crate) struct Store<L, P, S, D: DescriptorDevice<L, P, S>> {
     allocator: DescriptorAllocator<P, S>,
-    table: SetTable<DescriptorSet<S>>,
+    table: SetTable<CompactDescriptorSet<S>>,
 
     /// The new sets of a request, until the call puts them into the table. The vector stays here, as
     /// otherwise each `allocate_into` would allocate one.
@@ -45,10 +47,9 @@ pub(crate) struct Store<L, P, S, D: DescriptorDevice<L, P, S>> {
     ghost agree: { Agrees D.meaning.pool_name allocator (D.ledger device) } by { Agrees-prop
         D.meaning.pool_name allocator (D.ledger device) },
     ghost exact: { (item : Item) → outstanding (state_of D.meaning.pool_name allocator (D.ledger device)) item
-        ≡ count_of item (items_of D.meaning.set_name (sets_in (slots_of table)))
+        ≡ count_of item (items_of D.meaning.set_name (whole_sets table))
         + count_of item (items_of D.meaning.set_name coming.items) },
-    ghost accounted: { outstanding_of allocator ≡ length (sets_in (slots_of table))
-        + length coming.items },
+    ghost accounted: { outstanding_of allocator ≡ length (whole_sets table) + length coming.items },
 }
 
 impl<L: Drop, P: Drop, S: Drop, D: DescriptorDevice<L, P, S>> Store<L, P, S, D> {
@@ -162,7 +163,7 @@ impl<L: Drop, P: Drop, S: Drop, D: DescriptorDevice<L, P, S>> Store<L, P, S, D> 
     /// The raw set of a handle, while `frame` is the open frame if `is_open`.
     #[inline]
     pub(crate) fn get(&self, handle: SetHandle, frame: u64, is_open: bool) -> Option<&S>
-        ensures { option_copied result ≡ option_map raw_of (find self.now.table.number frame is_open
+        ensures { option_copied result ≡ option_map raw_in (find self.now.table.number frame is_open
             (slots_in self.now) handle) }
     {
         let set = self.table.get(handle, frame, is_open)?;

@@ -1,35 +1,28 @@
 -- The lists of slots, by the code's chains: for `SetTable::pick`, `link`, `settle` and others. No slot is in two lists (`lists_apart`),
 -- and one that waits is in none. `pick` takes a slot out of a list, `link` puts it into one.
 use Rattle.descriptor_table.proofs.Common.{common_steps, ◌≡◌, ◌≢◌, ℕ, suc, ◌+◌, ◌-◌, ◌<◌, ◌≤◌, ◌&&◌, Bool, true, false, List, ◌∷◌, length, get_or, set, is_some, refl, sym, ap, subst, ◌∙◌, arith, rules, get_or-set_same, length-set, false≢true, true≢false, walk, AreLinked, IsListed, IsNowhere, Lists}
-use Rattle.descriptor_table.proofs.Common.{Slot, chain_at, frame_of, in_list, is_in, is_live, slot_at, waits, waits_for, is_held_use, Use, Held, Taken, Chain}
+use Rattle.descriptor_table.proofs.Common.{Slot, chain_at, frame_of, in_list, is_in, is_live, slot_at, waits, is_held_use, Use, Held, Chain}
 use Rattle.descriptor_table.proofs.Counting.{walk_after, walk_agree, walk_length, walk_other}
 use Rattle.descriptor_table.proofs.Counts.{lists_few}
-use Rattle.descriptor_table.proofs.Listed.{first_passes, lists_other, lists_pop, lists_push, not_listed, one_none, test_within}
+use Rattle.descriptor_table.proofs.Listed.{first_passes, lists_other, lists_pop, lists_push, not_listed, test_within}
 
 pub and_true : (a b : Bool) → (a && b) ≡ true → (a ≡ true) × (b ≡ true)
 and_true x0 x1 e = grind (arith, common_steps)
-
--- a slot is in one list
-one_list : (j k : ℕ) (u : Use) (layout generation : ℕ) (full : Bool) → in_list k u layout generation full ≡ true → j ≢ k → in_list j u layout generation full ≡ false
-one_list j k u layout generation full e ne = grind (arith, common_steps)
 
 -- a set in such a use isn't held
 pub unheld : (u : Use) {X : Type 0} → is_held_use u ≡ false → u ≡ Held → X
 unheld u out held = absurd (false≢true (sym out ∙ ap is_held_use held))
 
 module _ {T : Type 0} where
-  -- so it is for whole slots
+  -- a slot is in one list
   pub lists_apart : (j k : ℕ) (s : Slot T) → is_in k s ≡ true → j ≢ k → is_in j s ≡ false
-  lists_apart j k s e ne = one_list j k s.used s.layout s.generation (is_some s.set) e ne
+  lists_apart j k s e ne = grind (arith, common_steps)
 
-  -- a slot that is in a list doesn't wait, and one that waits is in no list
+  -- a slot that is in a list doesn't wait
   pub listed_out : (k : ℕ) (s : Slot T) → is_in k s ≡ true → waits s ≡ false
   listed_out k s e = search rules
 
-  pub waits_no_list : (s : Slot T) → waits s ≡ true → (k : ℕ) → is_in k s ≡ false
-  waits_no_list s e k = search rules
-
-  -- and neither is one that has a handle
+  -- a slot that has a handle is in no list
   pub live_no_list : (s : Slot T) → is_live (frame_of s.used) true s.used ≡ true → (k : ℕ) → is_in k s ≡ false
   live_no_list s e k = search rules
 
@@ -41,18 +34,11 @@ module _ {T : Type 0} where
   pub held_nowhere : (s : Slot T) (k : ℕ) → is_in k s ≡ true → s.used ≢ Held
   held_nowhere s k e held = true≢false (sym e ∙ ap (λ u. in_list k u s.layout s.generation (is_some s.set)) held)
 
-  pub taken_no_list : (s : Slot T) → s.used ≡ Taken → (k : ℕ) → is_in k s ≡ false
-  taken_no_list s e k = ap (λ u. in_list k u s.layout s.generation (is_some s.set)) e
-
-  pub taken_out : (s : Slot T) → s.used ≡ Taken → waits s ≡ false
-  taken_out s e = ap (λ u. waits_for (λ w. true) u && is_some s.set) e
-
 -- a list of kept sets got shorter, or another list longer
 pub few_set : (max : ℕ) (chains : List Chain) (k : ℕ) (c : Chain) → ((j : ℕ) → 2 ≤ j → (chain_at chains j).count ≤ max) → k < length chains → (2 ≤ k → c.count ≤ max) → (j : ℕ) → 2 ≤ j → (chain_at (set chains k c) j).count ≤ max
 few_set max chains k c few within le j two = grind (arith, common_steps, length-set)
 
 module _ {T : Type 0} where
-  -- one slot changed
   -- each slot has its list
   abbrev pub HasLists : List (Slot T) → ℕ → Type 0
   HasLists slots layouts = (p : ℕ) → p < length slots → IsListed layouts (slot_at slots p)
@@ -60,9 +46,6 @@ module _ {T : Type 0} where
   -- the nexts of slots that don't wait are as they were
   abbrev pub Agree : List (Slot T) → List ℕ → List ℕ → Type 0
   Agree slots next next' = (q : ℕ) → waits (slot_at slots q) ≡ false → get_or next' q 0 ≡ get_or next q 0
-
-  pub lists_set : (slots : List (Slot T)) (p : ℕ) (s : Slot T) (layouts : ℕ) → HasLists slots layouts → p < length slots → IsListed layouts s → HasLists (set slots p s) layouts
-  lists_set slots p s layouts known within here q lt = grind (arith, common_steps, length-set)
 
 module _ {T : Type 0} (slots : List (Slot T)) (next : List ℕ) (chains : List Chain) (h : AreLinked slots next chains) where
   -- the places of a list
@@ -75,7 +58,7 @@ module _ {T : Type 0} (slots : List (Slot T)) (next : List ℕ) (chains : List C
 
   -- nothing but the nexts of slots that wait changed
   pub linked_still : (next' : List ℕ) → Agree slots next next' → AreLinked slots next' chains
-  linked_still next' agree k = subst (Lists (is_in k) slots) (sym (walk_agree (chain_at chains k).count next next' (chain_at chains k).first (λ q has. agree q (search (rules, listed_out k (slot_at slots q), one_none, h k q))))) (h k)
+  linked_still next' agree k = subst (Lists (is_in k) slots) (sym (walk_agree (chain_at chains k).count next next' (chain_at chains k).first (λ q has. agree q (grind (arith, common_steps, listed_out k (slot_at slots q), h k q))))) (h k)
 
   module _ (p : ℕ) (s : Slot T) (within : p < length slots) (idle : IsNowhere (slot_at slots p).used) where
     -- a list that the slot isn't in stays, whatever its next is
@@ -85,10 +68,6 @@ module _ {T : Type 0} (slots : List (Slot T)) (next : List ℕ) (chains : List C
   -- one list changed
   pub chain_changed : (slots' : List (Slot T)) (next' : List ℕ) (k : ℕ) (d : Chain) → k < length chains → Lists (is_in k) slots' (walk d.count next' d.first) → ((j : ℕ) → j ≢ k → Lists (is_in j) slots' (walk (chain_at chains j).count next' (chain_at chains j).first)) → AreLinked slots' next' (set chains k d)
   chain_changed slots' next' k d within here others j = grind (arith, common_steps)
-
-  -- a list without slots became another one
-  pub empty_linked : (k : ℕ) (c : Chain) → (chain_at chains k).count ≡ 0 → c.count ≡ 0 → k < length chains → AreLinked slots next (set chains k c)
-  empty_linked k c none empty there = chain_changed slots next k c there (grind (arith, common_steps, h k)) (λ j ne. h j)
 
   module _ (k : ℕ) (c : Chain) (is : chain_at chains k ≡ c) where
     -- a list that isn't empty is its first place, and then what begins with the next of that

@@ -3,7 +3,9 @@
 use Rattle.std.specs.Prelude.{⊤}
 use Rattle.std.proofs.lemmas.List.{append-nil}
 use Rattle.std.specs.List.{filter}
-use Rattle.descriptor_table.proofs.Common.{if◌then◌else◌, le-leb, lt-leb, nat_le, cases_lt, ◌≡◌, ◌≢◌, ℕ, zero, suc, ◌+◌, ◌<◌, ◌≤◌, List, [], ◌∷◌, ◌++◌, Option, None, Some, inl, inr, length, get_or, set, refl, sym, ap, subst, ◌∙◌, arith, eq-eqb, ne_eqb, rules, get_or-set_other, get_or-set_same, length-set, cases_eq, last_or, times, walk, IsNonDecreasingBy}
+use Rattle.std.proofs.Math.Seq.{drop-append_seam, take-append_seam}
+use Rattle.std.proofs.lemmas.List.Sorted.{IsNonDecreasingBy-drop, IsNonDecreasingBy-take}
+use Rattle.descriptor_table.proofs.Common.{if◌then◌else◌, le-leb, lt-leb, nat_le, cases_lt, ◌≡◌, ◌≢◌, ℕ, zero, suc, ◌+◌, ◌-◌, ◌<◌, ◌≤◌, List, [], ◌∷◌, ◌++◌, Option, None, Some, inl, inr, length, get_or, set, refl, sym, ap, subst, ◌∙◌, arith, eq-eqb, ne_eqb, rules, get_or-set_other, get_or-set_same, length-set, cases_eq, last_or, times, walk, IsNonDecreasingBy}
 
 pub times_here : (p : ℕ) (l : List ℕ) → times p (p ∷ l) ≡ times p l + 1
 times_here p l = rw (eq-eqb p p refl) (omega arith)
@@ -137,14 +139,7 @@ module _ (next before b after : List ℕ) (first head end : ℕ) (leads : Leads 
       let apart = leads_other (before ++ after) next first end past (omega (arith, few end, last_in end b ends, times_append end before after)) leads in
       leads_join before after (b ++ after) (set next end past) first near head apart at (to_rest past on) (λ p. omega (arith, few p, times_append p b after)) (omega (arith, within, length-set next end past))
 
--- the index of a place in a list, and the place at an index
-index_of : (q : ℕ) (l : List ℕ) → times q l ≢ 0 → (j : ℕ) × (j < length l) × ((d : ℕ) → get_or l j d ≡ q)
-index_of q [] some = absurd (some refl)
-index_of q (x ∷ l) some = elim (cases_eq q x) [
-  | inl e ↦ (0, omega arith, λ d. sym e)
-  | inr ne ↦ (let i = index_of q l (λ none. some (times_there q x l ne ∙ none)) in (suc i.0, omega (arith, i.1), i.2))
-]
-
+-- the place at an index is in the list
 times_at : (l : List ℕ) (j d : ℕ) → j < length l → times (get_or l j d) l ≢ 0
 times_at [] j d lt = absurd (omega (arith, lt))
 times_at (x ∷ l) zero d lt = λ none. absurd (omega (arith, none, times_here x l))
@@ -152,25 +147,19 @@ times_at (x ∷ l) (suc j) d lt = λ none. times_at l j d (omega (arith, lt)) (o
 
 -- along a list that rises no number is smaller than the first one, or greater than the last one
 pub rises_first : (n : ℕ → ℕ) (q p : ℕ) (l : List ℕ) → IsNonDecreasingBy n (q ∷ l) → times p (q ∷ l) ≢ 0 → n q ≤ n p
-rises_first n q p l rises some = let i = index_of p (q ∷ l) some in subst (λ p. n q ≤ n p) (i.2 0) (rises 0 i.0 0 (omega arith) i.1)
-
-rises_rest : (n : ℕ → ℕ) (x : ℕ) (l : List ℕ) → IsNonDecreasingBy n (x ∷ l) → IsNonDecreasingBy n l
-rises_rest n x l rises i j d le lt = rises (suc i) (suc j) d (omega (arith, le)) (omega (arith, lt))
+rises_first n q p [] rises some = grind (arith, cases_eq p q, times_there p q [])
+rises_first n q p (r ∷ l) rises some = grind (arith, cases_eq p q, times_there p q (r ∷ l), rises 0 1 0, rises_first n r p l (IsNonDecreasingBy-drop n 1 (q ∷ r ∷ l) rises))
 
 rises_more : (n : ℕ → ℕ) (x : ℕ) (l : List ℕ) → ((q : ℕ) → times q l ≢ 0 → n x ≤ n q) → IsNonDecreasingBy n l → IsNonDecreasingBy n (x ∷ l)
-rises_more n x l less rest zero zero d le lt = omega arith
-rises_more n x l less rest zero (suc j) d le lt = less (get_or l j d) (times_at l j d (omega (arith, lt)))
-rises_more n x l less rest (suc i) zero d le lt = absurd (omega (arith, le))
-rises_more n x l less rest (suc i) (suc j) d le lt = rest i j d (omega (arith, le)) (omega (arith, lt))
+rises_more n x l less rest i j d le lt = grind (arith, cases_eq i 0, cases_eq j 0, less (get_or l (j - 1) d), times_at l (j - 1) d, rest (i - 1) (j - 1) d)
 
 -- two lists rise together, if no place of the first one has a greater number than one of the second
 pub rises_join : (n : ℕ → ℕ) (l m : List ℕ) → IsNonDecreasingBy n l → IsNonDecreasingBy n m → ((p q : ℕ) → times p l ≢ 0 → times q m ≢ 0 → n p ≤ n q) → IsNonDecreasingBy n (l ++ m)
 rises_join n [] m left right less = right
-rises_join n (x ∷ l) m left right less = rises_more n x (l ++ m) (λ q some. grind (arith, times_append q l m, rises_first n x q l left, less x q, times_here x l)) (rises_join n l m (rises_rest n x l left) right (λ p q some. less p q (λ none. some (omega (arith, none)))))
+rises_join n (x ∷ l) m left right less = rises_more n x (l ++ m) (λ q some. grind (arith, times_append q l m, rises_first n x q l left, less x q, times_here x l)) (rises_join n l m (IsNonDecreasingBy-drop n 1 (x ∷ l) left) right (λ p q some. less p q (λ none. some (omega (arith, none)))))
 
 pub rises_parts : (n : ℕ → ℕ) (l m : List ℕ) → IsNonDecreasingBy n (l ++ m) → IsNonDecreasingBy n l × IsNonDecreasingBy n m
-rises_parts n [] m rises = (λ i j d le lt. absurd (omega (arith, lt)), rises)
-rises_parts n (x ∷ l) m rises = let parts = rises_parts n l m (rises_rest n x (l ++ m) rises) in (rises_more n x l (λ q some. rises_first n x q (l ++ m) rises (λ none. some (omega (arith, none, times_append q l m)))) parts.0, parts.1)
+rises_parts n l m rises = (rw take-append_seam at (IsNonDecreasingBy-take n (length l) (l ++ m) rises), rw drop-append_seam at (IsNonDecreasingBy-drop n (length l) (l ++ m) rises))
 
 -- the numbers along a list count alone
 pub rises_same : (n n' : ℕ → ℕ) (l : List ℕ) → ((p : ℕ) → times p l ≢ 0 → n' p ≡ n p) → IsNonDecreasingBy n l → IsNonDecreasingBy n' l

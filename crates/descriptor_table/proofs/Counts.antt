@@ -1,12 +1,9 @@
 -- How many slots pass a test, when one of them changes, and that a list counts them: for the counts that `SetTable` returns.
-use Rattle.descriptor_table.proofs.Common.{common_steps, ◌≡◌, ◌≢◌, ℕ, zero, suc, ◌+◌, ◌<◌, ◌≤◌, Bool, true, false, inl, inr, if◌then◌else◌, List, [], ◌∷◌, length, set, refl, ap, ◌∙◌, arith, rules, sym, is_of, list_of, HasList, walk, AreLinked, Lists, chain_at, count, is_in, is_kept_of}
-use Rattle.descriptor_table.proofs.Common.{nexts_in, no_slot, slot_at, removed_of, slots_of, chains_in, Group, SetTable, Slot, Chain, cases_eq, true≢false}
-use Rattle.descriptor_table.proofs.Relisted.{group_there, list_is}
+use Rattle.descriptor_table.proofs.Common.{common_steps, ◌≡◌, ◌≢◌, ℕ, zero, suc, ◌+◌, ◌<◌, ◌≤◌, Bool, true, false, if◌then◌else◌, List, [], ◌∷◌, length, set, refl, ap, ◌∙◌, arith, sym, is_of, HasList, walk, Lists, chain_at, count, is_in, is_kept_of}
+use Rattle.descriptor_table.proofs.Common.{cases_lt, get_or_past, nexts_in, no_slot, slot_at, removed_of, slots_of, chains_in, Group, SetTable, Slot, Chain}
+use Rattle.descriptor_table.proofs.Relisted.{chain_was, list_is}
 use Rattle.descriptor_table.proofs.Counting.{walk_length}
-use Rattle.descriptor_table.proofs.Listed.{bit, first_passes, one_none, test_within, lists_pop}
-
-pub bit_few : (b : Bool) → bit b ≤ 1
-bit_few x0 = grind (arith, common_steps)
+use Rattle.descriptor_table.proofs.Listed.{bit, first_passes, test_within, lists_pop}
 
 module _ {T : Type 0} where
   -- what the slot counted before comes off, and what it counts now comes on
@@ -23,26 +20,20 @@ module _ {T : Type 0} where
   count_split all a b [] each = omega arith
   count_split all a b (s ∷ slots) each = let e = each s in let h = count_split all a b slots each in omega arith
 
-  -- a slot passes both tests or none
-  pub count_as : (a b : Slot T → Bool) (slots : List (Slot T)) → ((p : ℕ) → p < length slots → a (slot_at slots p) ≡ b (slot_at slots p)) → count a slots ≡ count b slots
-  count_as a b [] same = refl
-  count_as a b (s ∷ slots) same = let e = ap bit (same 0 (omega arith)) in let h = count_as a b slots (λ p lt. same (suc p) (omega arith)) in omega arith
-
   -- as many slots pass the test, if at each place the slot does as before
   pub count_same : (test : Slot T → Bool) (l m : List (Slot T)) → length m ≡ length l → ((p : ℕ) → test (slot_at m p) ≡ test (slot_at l p)) → count test m ≡ count test l
-  count_same test [] [] long same = refl
-  count_same test [] (y ∷ m) long same = absurd (omega arith)
+  count_same test [] m long same = grind (arith, common_steps)
   count_same test (x ∷ l) [] long same = absurd (omega arith)
   count_same test (x ∷ l) (y ∷ m) long same = let a = ap bit (same 0) in let h = count_same test l m (omega arith) (λ p. same (suc p)) in omega arith
 
   pub count_few : (test : Slot T → Bool) (slots : List (Slot T)) → count test slots ≤ length slots
   count_few test [] = omega arith
-  count_few test (s ∷ slots) = let b = bit_few (test s) in let h = count_few test slots in omega arith
+  count_few test (s ∷ slots) = grind (arith, common_steps, count_few test slots)
 
   pub count_less : (test : Slot T → Bool) (slots : List (Slot T)) (p : ℕ) → p < length slots → test (slot_at slots p) ≡ false → count test slots < length slots
   count_less test [] p within out = absurd (omega arith)
   count_less test (s ∷ slots) zero within out = let e = ap bit out in let h = count_few test slots in omega arith
-  count_less test (s ∷ slots) (suc p) within out = let b = bit_few (test s) in let h = count_less test slots p (omega arith) out in omega arith
+  count_less test (s ∷ slots) (suc p) within out = grind (arith, common_steps, count_less test slots p)
 
   pub none_count : (test : Slot T → Bool) (slots : List (Slot T)) → ((p : ℕ) → test (slot_at slots p) ≡ false) → count test slots ≡ 0
   none_count test [] none = refl
@@ -50,40 +41,27 @@ module _ {T : Type 0} where
 
   -- as many slots as places in a list, if the slot past the end, in which no set ever was, isn't in it
   pub listed_count : (test : Slot T → Bool) (slots : List (Slot T)) (l : List ℕ) → test no_slot ≡ false → Lists test slots l → length l ≡ count test slots
-  listed_count test slots [] none h = sym (none_count test slots (λ p. one_none (test (slot_at slots p)) (sym (h p))))
+  listed_count test slots [] none h = sym (none_count test slots (λ p. grind (arith, common_steps, h p)))
   listed_count test slots (p ∷ l) none h = grind (arith, common_steps, bit, count_set, first_passes, lists_pop, test_within, listed_count test (set slots p no_slot) l)
 
   -- so a list has no more places than there are slots
   pub lists_few : (test : Slot T → Bool) (slots : List (Slot T)) (l : List ℕ) → test no_slot ≡ false → Lists test slots l → length l ≤ length slots
   lists_few test slots l none h = omega (arith, listed_count test slots l none h, count_few test slots)
 
-  -- a list has as many slots as it counts
-  pub chain_count : (slots : List (Slot T)) (next : List ℕ) (chains : List Chain) → AreLinked slots next chains → (k : ℕ) → (chain_at chains k).count ≡ count (is_in k) slots
-  chain_count slots next chains h k = grind (arith, common_steps, walk_length (chain_at chains k).count next (chain_at chains k).first, listed_count (is_in k) slots (walk (chain_at chains k).count next (chain_at chains k).first) refl (h k))
-
   -- if no slot counts, none passes the test, nor does the slot past the end, in which no set ever was
   pub count_none : (test : Slot T → Bool) (slots : List (Slot T)) → test no_slot ≡ false → count test slots ≡ 0 → (p : ℕ) → test (slot_at slots p) ≡ false
-  count_none test [] none zero_count p = none
-  count_none test (s ∷ slots) none zero_count zero = search rules
-  count_none test (s ∷ slots) none zero_count (suc p) = count_none test slots none (let b = few (test s) in omega arith) p
-    where
-      few : (b : Bool) → 0 ≤ bit b
-      few x0 = grind (arith, common_steps)
+  count_none test slots none zero_count p = grind (arith, common_steps, test_within test slots p none, count_set test slots p no_slot)
 
   -- some count, if one passes the test
   pub some_count : (test : Slot T → Bool) (slots : List (Slot T)) (p : ℕ) → test no_slot ≡ false → test (slot_at slots p) ≡ true → 0 < count test slots
-  some_count test slots p none is = elim (cases_eq (count test slots) 0) [
-    | inl e ↦ absurd (true≢false (sym is ∙ count_none test slots none e p))
-    | inr ne ↦ omega arith
-  ]
+  some_count test slots p none is = grind (arith, common_steps, count_none test slots none)
 
--- how many slots a table's lists have
+-- a table's lists have as many slots as they count
 module _ {T : Type 0} (t : SetTable T) where
   pub chain_counts : (k : ℕ) → (chain_at (chains_in t.lists) k).count ≡ count (is_in k) (slots_of t)
-  chain_counts = chain_count (slots_of t) (nexts_in t.slots) (chains_in t.lists) t.sound.linked
-
-  pub vacant_count : t.lists.vacant.count ≡ count (is_in 0) (slots_of t)
-  vacant_count = chain_counts 0
+  chain_counts k =
+      let c = chain_at (chains_in t.lists) k in
+      grind (arith, common_steps, walk_length c.count (nexts_in t.slots) c.first, listed_count (is_in k) (slots_of t) (walk c.count (nexts_in t.slots) c.first) refl (t.sound.linked k))
 
   -- fewer than the count that marks the list of a removed layout
   pub chain_short : (k : ℕ) → (chain_at (chains_in t.lists) k).count < 4294967295
@@ -99,4 +77,4 @@ module _ {T : Type 0} (t : SetTable T) where
 
   -- a group that has a set has a list
   pub group_has : (group : Group) → 0 < count (is_of group) (slots_of t) → HasList group t.lists
-  group_has group some = group_there t.lists group (let is = chain_counts (list_of group) in omega arith)
+  group_has x1 some = grind (arith, common_steps, chain_counts, chain_was t.lists, cases_lt, get_or_past)

@@ -7,11 +7,8 @@ pub in_place : {X Y : Type 0} (P : X → Y → Type 0) (x x' : X) (y y' : Y) →
 in_place P x x' y y' one two p = subst (λ x. P x y') (sym one) (subst (P x) (sym two) p)
 
 module _ {T : Type 0} (entries : List (Entry T)) (p : ℕ) (e : Entry T) (within : p < length (map slot_of entries)) (is : e ≡ get_or entries p e) where
-  inside : p < length entries
-  inside = let long = length-map entries slot_of in omega arith
-
   pub slot_is : slot_of e ≡ slot_at (map slot_of entries) p
-  slot_is = ap slot_of is ∙ sym (get_or-map slot_of entries p e no_slot inside)
+  slot_is = ap slot_of is ∙ sym (get_or-map slot_of entries p e no_slot (omega (arith, within, length-map entries slot_of)))
 
   pub written : (y : Entry T) (becomes : Slot T → Slot T) → slot_of y ≡ becomes (slot_of e) → map slot_of (set entries p y) ≡ set (map slot_of entries) p (becomes (slot_at (map slot_of entries) p))
   written y becomes same = map-set slot_of entries p y ∙ ap (set (map slot_of entries) p) (same ∙ ap becomes slot_is)

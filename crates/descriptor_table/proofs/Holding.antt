@@ -1,12 +1,9 @@
 -- Held sets whose slots turn by their handles, one after another: for the names of `Named`. `n` is how many turned.
-use Rattle.descriptor_table.proofs.Common.{common_steps, ◌≡◌, ◌≢◌, ℕ, zero, suc, ◌+◌, ◌<◌, ◌⊎◌, Bool, true, List, length, set, is_some, inr, sym, ap, subst, ◌∙◌, arith, rules, ext_get_or, length-set}
-use Rattle.descriptor_table.proofs.Common.{cases_eq, AreHeldOnce, is_held, no_slot, slot_at, Becomes, IsBack, TurnEach, holds, is_held_use, place_at, used_for, SetHandle, Use, Going, Held, Taken, Slot}
+use Rattle.descriptor_table.proofs.Common.{common_steps, ◌≡◌, ◌≢◌, ℕ, zero, suc, ◌+◌, ◌<◌, ◌⊎◌, true, List, length, set, is_some, inr, sym, ap, ◌∙◌, arith, rules, length-set}
+use Rattle.descriptor_table.proofs.Common.{cases_eq, AreHeldOnce, is_held, slot_at, TurnEach, holds, place_at, SetHandle, Held, Slot}
 use Rattle.std.proofs.Math.Bool.{and-false}
 use Rattle.descriptor_table.proofs.Chains.{and_true}
 use Rattle.descriptor_table.proofs.Listed.{other_slots, slot_set, test_within}
-
-held_use : (u : Use) → is_held_use u ≡ true → u ≡ Held
-held_use u e = grind (arith, common_steps)
 
 -- a place that a handle of the list has, or none has
 pub named_or : (n : ℕ) (place : ℕ → ℕ) (p : ℕ) → ((i : ℕ) × (i < n) × (place i ≡ p)) ⊎ ((i : ℕ) → i < n → place i ≢ p)
@@ -18,9 +15,6 @@ pub handle_is : (a b : SetHandle) → a.manager ≡ b.manager → a.place ≡ b.
 handle_is a b r p g = grind (arith, common_steps)
 
 module _ {T : Type 0} where
-  holds_used : (s : Slot T) → holds s ≡ true → s.used ≡ Held
-  holds_used s e = held_use s.used (and_true (is_held_use s.used) (is_some s.set) e).0
-
   -- what is known of a handle with a held set
   pub record IsHeld (number : ℕ) (slots : List (Slot T)) (h : SetHandle) : Type 0 where
     pub manager : h.manager ≡ number
@@ -32,14 +26,7 @@ module _ {T : Type 0} where
 
   -- a handle that passes the test `is_held` has all that
   pub held_is : (number : ℕ) (slots : List (Slot T)) (h : SetHandle) → is_held number slots h ≡ true → IsHeld number slots h
-  held_is number slots h e = grind (arith, common_steps, and-false, and_true, holds_used, test_within)
-
-  pub used_same : (s : Slot T) (u : Use) → s.used ≡ u → used_for u s ≡ s
-  used_same s u e = ap (λ v. used_for v s) (sym e)
-
-  -- lists with the same slot at each place are the same
-  pub all_same : (l m : List (Slot T)) → length l ≡ length m → ((p : ℕ) → slot_at l p ≡ slot_at m p) → l ≡ m
-  all_same l m long same = ext_get_or no_slot l m long (λ p lt. same p)
+  held_is number slots h e = grind (arith, common_steps, and-false, and_true, test_within)
 
   -- the slots of the first n handles became what the relation says; all others are as they were
   pub record TurnedFirst (handles : List SetHandle) (becomes : List (Slot T) → Slot T → Slot T → Type 0) (n : ℕ) (old now : List (Slot T)) : Type 0 where
@@ -50,15 +37,11 @@ module _ {T : Type 0} where
   module _ (handles : List SetHandle) (becomes : List (Slot T) → Slot T → Slot T → Type 0) where
     -- one slot more turned
     pub first_more : (n p : ℕ) (s : Slot T) (old now new : List (Slot T)) → TurnedFirst handles becomes n old now → ((i : ℕ) → i < n → place_at handles i ≢ p) → place_at handles n ≡ p → p < length now → new ≡ set now p s → ((o x : Slot T) → becomes now o x → becomes new o x) → becomes new (slot_at now p) s → TurnedFirst handles becomes (n + 1) old new
-    first_more n p s old now new first apart at within made grows turned =
-        let was : slot_at now p ≡ slot_at old p = first.rest p apart in
-        let far : (q : ℕ) → q ≢ p → slot_at new q ≡ slot_at now q = λ q ne. ap (λ l. slot_at l q) made ∙ other_slots now p s q ne in
-        let here : slot_at new p ≡ s = ap (λ l. slot_at l p) made ∙ slot_set now p s within in
-        record {
-          long = ap length made ∙ length-set now p s ∙ first.long;
-          named = λ i less. grind (arith, common_steps, cases_eq);
-          rest = λ q none. far q (λ e. none n (omega arith) (at ∙ sym e)) ∙ first.rest q (λ i less. none i (omega arith));
-        }
+    first_more n p s old now new first apart at within made grows turned = record {
+      long = ap length made ∙ length-set now p s ∙ first.long;
+      named = λ i less. grind (arith, common_steps, cases_eq, first.rest p apart, other_slots now p s, slot_set now p s within);
+      rest = λ q none. ap (λ l. slot_at l q) made ∙ other_slots now p s q (λ e. none n (omega arith) (at ∙ sym e)) ∙ first.rest q (λ i less. none i (omega arith));
+    }
 
     pub first_all : (n : ℕ) (old now : List (Slot T)) → n ≡ length handles → TurnedFirst handles becomes n old now → TurnEach handles becomes old now
     first_all n old now all first = record { long = first.long; named = λ i lt. first.named i (omega arith); rest = λ p none. first.rest p (λ i lt. none i (omega arith)) }
@@ -66,11 +49,3 @@ module _ {T : Type 0} where
   -- handles with held sets, none of which is in the list twice, have different places
   pub apart_once : (number : ℕ) (slots : List (Slot T)) (handles : List SetHandle) → AreHeldOnce number slots handles → (i j : ℕ) → i < j → j < length handles → place_at handles i ≢ place_at handles j
   apart_once number slots handles once i j less lt e = search (rules, handle_is, held_is)
-
-  -- sets that a call took, and then settled
-  pub taken_settled : (handles : List SetHandle) (removed : ℕ → Bool) (max : ℕ) (old mid new : List (Slot T)) → TurnEach handles (Becomes (used_for Taken)) old mid → TurnEach handles (IsBack (used_for Going) removed max) mid new → TurnEach handles (IsBack (used_for Going) removed max) old new
-  taken_settled handles removed max old mid new took back = record {
-    long = back.long ∙ took.long;
-    named = λ i lt. subst (λ o. IsBack (used_for Going) removed max new o (slot_at new (place_at handles i))) (took.named i lt) (back.named i lt);
-    rest = λ p none. back.rest p none ∙ took.rest p none;
-  }

@@ -1,19 +1,11 @@
 -- Held sets that are kept at once, first in the list of their layout: for `SetTable::keep_each`.
-use Rattle.descriptor_table.proofs.Common.{common_steps, ◌≡◌, ◌≢◌, ℕ, ◌+◌, ◌<◌, ◌≤◌, ◌++◌, true, false, List, length, last_or, None, get_or, set, is_some, inl, inr, refl, sym, ap, subst, ◌∙◌, arith, AreSound, IsNowhere, Lists, Some, Slot, SlotList, Chain, Queue, Held, Kept}
-use Rattle.descriptor_table.proofs.Common.{chain_at, is_in, may_join, nexts_in, slot_at, slots_in, times, used_for, walk}
+use Rattle.descriptor_table.proofs.Common.{common_steps, ◌≡◌, ◌≢◌, ℕ, ◌+◌, ◌<◌, ◌≤◌, ◌++◌, List, length, last_or, None, get_or, set, refl, sym, ap, subst, ◌∙◌, arith, AreSound, Lists, Some, SlotList, Chain, Queue, Held, Kept}
+use Rattle.descriptor_table.proofs.Common.{chain_at, is_in, nexts_in, slot_at, slots_in, times, walk}
 use Rattle.std.proofs.lemmas.List.{length-append}
 use Rattle.descriptor_table.proofs.Chains.{chain_changed, few_set, nowhere_out, unheld}
 use Rattle.descriptor_table.proofs.Counting.{Leads, leads_on, leads_walk, times_append, walk_leads, walk_length}
 use Rattle.descriptor_table.proofs.Counts.{lists_few}
-use Rattle.descriptor_table.proofs.Listed.{bit}
 use Rattle.descriptor_table.proofs.Reusing.{Reused, reused_sound, same_lists, same_walk}
-
--- a set that may join the list of a layout is in that list once it is kept, and in no other
-joins : {T : Type 0} (layout : ℕ) (s : Slot T) → may_join (Some layout) s ≡ true → is_some s.set ≡ true → is_in (layout + 2) (used_for Kept s) ≡ true
-joins layout s may full = grind (arith, common_steps)
-
-joins_one : {T : Type 0} (layout k : ℕ) (s : Slot T) → k ≢ layout + 2 → may_join (Some layout) s ≡ true → is_in k (used_for Kept s) ≡ false
-joins_one layout k s ne may = grind (arith, common_steps)
 
 module _ {T : Type 0} (layout first many place : ℕ) (l l' : SlotList T) (chains : List Chain) (layouts : ℕ) (waiting : Queue) (keep : ℕ) (h : AreSound l chains layouts waiting keep)
     (reused : Reused (Some layout) Kept (walk many (nexts_in l') first) (slots_in l) (slots_in l')) (nexts : (p : ℕ) → (slot_at (slots_in l) p).used ≢ Held → get_or (nexts_in l') p 0 ≡ get_or (nexts_in l) p 0)
@@ -37,10 +29,7 @@ module _ {T : Type 0} (layout first many place : ℕ) (l l' : SlotList T) (chain
   lists : Lists (is_in k) (slots_in l') (walk (was.count + many) (nexts_in l') first)
   lists q =
       let all = ap (times q) places ∙ times_append q (walk many (nexts_in l') first) (walk was.count (nexts_in l) was.first) in
-      elim (reused.each q) [
-        | inl same ↦ omega (arith, all, h.linked k q, same.1, ap (λ s. bit (is_in k s)) same.0)
-        | inr now ↦ omega (arith, all, h.linked k q, now.4, ap bit ((nowhere_out (slot_at (slots_in l) q) (subst IsNowhere (sym now.1) tt)).1 k), ap bit (ap (is_in k) now.2 ∙ joins layout (slot_at (slots_in l) q) now.0 now.3))
-      ]
+      grind (arith, common_steps, all, h.linked k q, reused.each q, nowhere_out (slot_at (slots_in l) q))
 
   -- the list has no more slots then than there are
   pub few_kept : was.count + many ≤ length (slots_in l')
@@ -49,5 +38,5 @@ module _ {T : Type 0} (layout first many place : ℕ) (l l' : SlotList T) (chain
   pub kept_sound : was.count + many ≤ keep → k < length chains → AreSound l' (set chains k (record { first = first; count = was.count + many })) layouts waiting keep
   kept_sound few there =
       reused_sound (Some layout) Kept (unheld Kept refl) l l' chains layouts waiting keep h _ reused nexts (λ s. refl) _
-      (chain_changed (slots_in l) (nexts_in l) chains h.linked (slots_in l') (nexts_in l') k _ there lists (λ j ne. same_lists (Some layout) Kept (unheld Kept refl) l l' chains layouts waiting keep h _ reused nexts j (λ s may. joins_one layout j s ne may)))
+      (chain_changed (slots_in l) (nexts_in l) chains h.linked (slots_in l') (nexts_in l') k _ there lists (λ j ne. same_lists (Some layout) Kept (unheld Kept refl) l l' chains layouts waiting keep h _ reused nexts j (λ s may. grind (arith, common_steps))))
       (few_set keep chains k _ h.few there (λ two. few))

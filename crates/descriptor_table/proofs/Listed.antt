@@ -1,22 +1,11 @@
 -- Lists of the places of slots that pass a test, when a slot changes: for the chains of slots (`Chains`) and the queue (`Waiting`).
-use Rattle.descriptor_table.proofs.Common.{common_steps, ◌≡◌, ◌≢◌, ℕ, zero, suc, ◌+◌, ◌<◌, ◌≤◌, Bool, true, false, if◌then◌else◌, List, [], ◌∷◌, length, set, refl, sym, ap, ◌∙◌, arith, get_or-set_other, get_or-set_same, get_or_past, cases_eq, times, Lists, Slot, no_slot, slot_at}
+use Rattle.descriptor_table.proofs.Common.{common_steps, ◌≡◌, ◌≢◌, ℕ, ◌<◌, ◌≤◌, Bool, true, false, if◌then◌else◌, List, ◌∷◌, length, set, ap, ◌∙◌, arith, get_or-set_other, get_or-set_same, get_or_past, cases_eq, cases_lt, times, Lists, Slot, no_slot, slot_at}
 use Rattle.descriptor_table.proofs.Common.{used_for, Use}
 use Rattle.descriptor_table.proofs.Counting.{times_here, times_there}
 
 -- 1 if the test holds
 abbrev pub bit : Bool → ℕ
 bit b = if b then 1 else 0
-
-pub one_less : (b : Bool) (n : ℕ) → n + 1 ≡ bit b → (n ≡ 0) × (b ≡ true)
-one_less x0 n e = grind (arith, common_steps)
-
-pub one_none : (b : Bool) → bit b ≡ 0 → b ≡ false
-one_none x0 e = grind (arith, common_steps)
-
--- what isn't false is true
-pub member : (b : Bool) → (b ≡ false → ⊥) → b ≡ true
-member true some = refl
-member false some = absurd (some refl)
 
 module _ {T : Type 0} where
   -- the slots, with one in use for this
@@ -31,9 +20,7 @@ module _ {T : Type 0} where
 
   -- a slot that passes a test is in the table, if the slot past the end, in which no set ever was, doesn't pass it
   pub test_within : (t : Slot T → Bool) (slots : List (Slot T)) (p : ℕ) → t no_slot ≡ false → t (slot_at slots p) ≡ true → p < length slots
-  test_within t [] p not is = absurd (cc)
-  test_within t (s ∷ slots) zero not is = omega arith
-  test_within t (s ∷ slots) (suc p) not is = let h = test_within t slots p not is in omega arith
+  test_within t slots p not is = grind (arith, common_steps, cases_lt p (length slots), get_or_past slots p no_slot)
 
   -- a list stays if the slot that changed passes its test as before; below it gets a place in front, or loses it
   pub lists_other : (t : Slot T → Bool) (slots : List (Slot T)) (p : ℕ) (s : Slot T) (l : List ℕ) → Lists t slots l → p < length slots → t s ≡ t (slot_at slots p) → Lists t (set slots p s) l
@@ -44,7 +31,7 @@ module _ {T : Type 0} where
 
   -- the first of a list passes the test, and is there once
   pub first_passes : (t : Slot T → Bool) (slots : List (Slot T)) (p : ℕ) (l : List ℕ) → Lists t slots (p ∷ l) → (times p l ≡ 0) × (t (slot_at slots p) ≡ true)
-  first_passes t slots p l h = one_less (t (slot_at slots p)) (times p l) (sym (times_here p l) ∙ h p)
+  first_passes t slots p l h = grind (arith, common_steps, bit, h p, times_here p l)
 
   pub lists_pop : (t : Slot T → Bool) (slots : List (Slot T)) (p : ℕ) (s : Slot T) (l : List ℕ) → Lists t slots (p ∷ l) → p < length slots → t s ≡ false → Lists t (set slots p s) l
   lists_pop t slots p s l h within now = grind (arith, common_steps, first_passes, bit, other_slots, cases_eq, slot_set, times_there)

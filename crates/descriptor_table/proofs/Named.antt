@@ -1,6 +1,6 @@
 -- Names whose held sets are put to another use, one after another, unless one of them doesn't fit its set, or its handle has no held
 -- set, or is there twice: for `SlotList::use_each`. Then names of sets that a call has taken: for `settle_each`.
-use Rattle.descriptor_table.proofs.Common.{common_steps, ◌≡◌, ◌≢◌, ℕ, ◌+◌, ◌<◌, ◌≤◌, ◌==◌, ◌&&◌, true, false, Bool, List, length, map, get_or, set, inl, inr, refl, rules, sym, ap, subst, ◌∙◌, arith, get_or_default, cases_eq, true≢false, AllFit, AreHeldOnce, is_held, is_some, Slot, slot_at, Becomes, HasTaken, TurnEach, is_held_use, may_join, place_at, used_for}
+use Rattle.descriptor_table.proofs.Common.{common_steps, ◌≡◌, ◌≢◌, ℕ, ◌+◌, ◌<◌, ◌≤◌, ◌&&◌, true, false, Bool, List, length, map, get_or, set, inl, inr, refl, rules, sym, ap, ◌∙◌, arith, get_or_default, cases_eq, AllFit, AreHeldOnce, is_held, Slot, slot_at, Becomes, HasTaken, TurnEach, may_join, place_at, used_for}
 use Rattle.descriptor_table.proofs.Common.{SetHandle, Ghosts, Held, None, Option, Use}
 use Rattle.descriptor_table.proofs.Chains.{and_true}
 use Rattle.descriptor_table.proofs.Holding.{IsHeld, TurnedFirst, apart_once, first_all, first_more, held_is, named_or}
@@ -10,10 +10,6 @@ module _ {N T : Type 0} (n : Ghosts N T) (each : (names : List N) → n.handles_
   -- whether a name fits, and its handle has a held set that may join the list of the layout
   abbrev pub may_use : ℕ → Option ℕ → List (Slot T) → N → Bool
   may_use number layout slots x = (n.fit x (slot_at slots (n.handle_of x).place).set && is_held number slots (n.handle_of x)) && may_join layout (slot_at slots (n.handle_of x).place)
-
-  -- that is known by the slot at the name's place
-  use_same : (number : ℕ) (layout : Option ℕ) (l m : List (Slot T)) (x : N) → slot_at m (n.handle_of x).place ≡ slot_at l (n.handle_of x).place → may_use number layout m x ≡ may_use number layout l x
-  use_same number layout l m x same = ap (λ (s : Slot T). (n.fit x s.set && ((((n.handle_of x).manager == number) && ((n.handle_of x).generation == s.generation)) && (is_held_use s.used && is_some s.set))) && may_join layout s) same
 
   -- the first k names had such sets, no two at one place, and these are in the other use
   pub record UsedNames (number : ℕ) (layout : Option ℕ) (u : Use) (names : List N) (k : ℕ) (old now : List (Slot T)) : Type 0 where
@@ -37,7 +33,7 @@ module _ {N T : Type 0} (n : Ghosts N T) (each : (names : List N) → n.handles_
         other_place i less e = off (sym (ap (λ (s : Slot T). s.used) (used.first.named i less)) ∙ ap (λ p. (slot_at now p).used) e ∙ held.used)
 
         before : may_use number layout old x ≡ true
-        before = use_same number layout now old x (sym (used.first.rest (n.handle_of x).place other_place)) ∙ may
+        before = grind (arith, common_steps, used.first.rest (n.handle_of x).place other_place, may)
 
         pub was_held : IsHeld number old (n.handle_of x)
         was_held = held_is number old (n.handle_of x) (and_true _ _ (and_true _ _ before).0).1
@@ -46,19 +42,12 @@ module _ {N T : Type 0} (n : Ghosts N T) (each : (names : List N) → n.handles_
         pub used_more : (new : List (Slot T)) → new ≡ set now (n.handle_of x).place (used_for u (slot_at now (n.handle_of x).place)) → UsedNames number layout u names (k + 1) old new
         used_more new made =
             let both = and_true _ _ before in
+            let here : (n.fit x (slot_at old (n.handle_of x).place).set ≡ true) × (is_held number old (n.handle_of x) ≡ true) = and_true _ _ both.0 in
+            let may : may_join layout (slot_at old (n.handle_of x).place) ≡ true = both.1 in
             record {
-              held = λ i d less. elim (cases_eq i k) [
-                | inl e ↦ ap (λ i. is_held number old (get_or (n.handles_of names) i d)) e ∙ ap (is_held number old) (sym (handle_read n each names k x (n.handle_of x) lt is refl d)) ∙ (and_true _ _ both.0).1
-                | inr ne ↦ used.held i d (omega arith)
-              ];
-              fit = λ i d less. elim (cases_eq i k) [
-                | inl e ↦ subst (λ (y : N). n.fit y (slot_at old (n.handle_of y).place).set ≡ true) (is ∙ get_or_default names k x d lt ∙ ap (λ i. get_or names i d) (sym e)) (and_true _ _ both.0).0
-                | inr ne ↦ used.fit i d (omega arith)
-              ];
-              may = λ i less. elim (cases_eq i k) [
-                | inl e ↦ ap (λ p. may_join layout (slot_at old p)) (ap (place_at (n.handles_of names)) e ∙ at) ∙ both.1
-                | inr ne ↦ used.may i (omega arith)
-              ];
+              held = λ i d less. grind (arith, cases_eq i k, handle_read n each names k x (n.handle_of x) lt is refl d, here, used.held i d);
+              fit = λ i d less. grind (arith, cases_eq i k, is, get_or_default names k x d lt, here, used.fit i d);
+              may = λ i less. grind (arith, cases_eq i k, at, may, used.may i);
               apart = λ i j less within. search (rules, at, other_place, cases_eq);
               first = first_more (n.handles_of names) _ k (n.handle_of x).place (used_for u (slot_at now (n.handle_of x).place)) old now new used.first other_place at held.within made (λ o x is. is) refl;
             }
@@ -69,12 +58,7 @@ module _ {N T : Type 0} (n : Ghosts N T) (each : (names : List N) → n.handles_
           let long = handles_long n each names in
           elim (named_or k (place_at (n.handles_of names)) (n.handle_of x).place) [
             | inl found ↦ apart_once number old (n.handles_of names) once.0 found.0 k found.1 (omega arith) (found.2 ∙ sym at)
-            | inr other ↦ (
-                let z : SetHandle = record { manager = 0; place = 0; generation = 0 } in
-                let held : is_held number old (n.handle_of x) ≡ true = ap (is_held number old) (handle_read n each names k x (n.handle_of x) lt is refl z) ∙ once.0.held k z (omega arith) in
-                let fit : n.fit x (slot_at old (n.handle_of x).place).set ≡ true = subst (λ (y : N). n.fit y (slot_at old (n.handle_of y).place).set ≡ true) (sym is) (once.1 k x lt) in
-                true≢false (sym (λ i. (fit i && held i) && may_join (none i) (slot_at old (n.handle_of x).place)) ∙ sym (use_same number layout old now x (used.first.rest (n.handle_of x).place other)) ∙ not)
-                )
+            | inr other ↦ grind (arith, common_steps, handle_read n each names k x (n.handle_of x) lt is refl (n.handle_of x), once.0.held k (n.handle_of x), once.1 k x lt, used.first.rest (n.handle_of x).place other)
           ]
 
     -- at the end all are

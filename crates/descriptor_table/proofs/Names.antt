@@ -3,16 +3,7 @@ use Rattle.std.specs.List.{slice_get}
 use Rattle.std.specs.Prelude.{reverse}
 use Rattle.std.proofs.lemmas.List.{reverse-append}
 use Rattle.descriptor_table.proofs.Counting.{last_append}
-use Rattle.descriptor_table.proofs.Common.{◌≡◌, ℕ, ◌<◌, List, [], ◌∷◌, None, Some, last_or, ◌++◌, length, get_or, set, map, sym, ap, ◌∙◌, get_or-map, length-map, map-append, map-set, place_at, SetHandle, Ghosts, ◌≢◌, arith}
-
--- the first of names, if there is one
-pub first_read : {N : Type 0} (names : List N) (name d : N) → Some name ≡ slice_get names 0 → name ≡ get_or names 0 d
-first_read [] name d is = absurd (cc is)
-first_read (x ∷ names) name d is = cc is
-
-pub some_names : {N : Type 0} (names : List N) (name : N) → Some name ≡ slice_get names 0 → length names ≢ 0
-some_names [] name is = absurd (cc is)
-some_names (x ∷ names) name is = λ none. omega (arith, none)
+use Rattle.descriptor_table.proofs.Common.{◌≡◌, ℕ, ◌<◌, List, [], ◌∷◌, None, Some, last_or, ◌++◌, length, get_or, set, map, sym, ap, ◌∙◌, get_or-map, length-map, map-append, map-set, place_at, SetHandle, Ghosts}
 
 module _ {N T : Type 0} (n : Ghosts N T) (each : (names : List N) → n.handles_of names ≡ map n.handle_of names) where
   -- as many as there are names

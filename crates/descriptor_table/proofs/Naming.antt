@@ -1,18 +1,12 @@
 -- What handles name once slots changed: for `LayoutRegistry`, and for the calls of a set manager by which sets are freed, wait or go.
 -- A handle is the *last* of its slot if no later one was given for the place; `shown` is what that one names.
-use Rattle.descriptor_table.proofs.Common.{common_steps, arith, ◌≡◌, ◌≢◌, ℕ, ◌<◌, ◌==◌, ◌&&◌, nat_le, nat_lt, Bool, false, List, length, slice_index_or, if◌then◌else◌, Option, None, sym, ap, ◌∙◌, eqb-true, rules, get_or_default, AreHeldOnce, LoseNames, is_last, sets_of, is_live, slot_at}
+use Rattle.descriptor_table.proofs.Common.{common_steps, arith, ◌≡◌, ◌≢◌, ℕ, ◌<◌, ◌==◌, ◌&&◌, nat_le, nat_lt, Bool, false, List, length, slice_index_or, if◌then◌else◌, Option, None, ap, ◌∙◌, eqb-true, and_left, and_right, rules, get_or_default, AreHeldOnce, LoseNames, is_last, sets_of, is_live, slot_at}
 use Rattle.descriptor_table.proofs.Common.{place_at, SetHandle, Slot}
 use Rattle.descriptor_table.proofs.Chains.{and_true}
 use Rattle.descriptor_table.proofs.Holding.{handle_is, held_is, named_or}
 
-if_both : {T : Type 0} (a b : Bool) (x : Option T) → (if a && b then x else None) ≡ (if a then (if b then x else None) else None)
-if_both x0 b x = grind (arith, common_steps)
-
-if_neither : {T : Type 0} (a b : Bool) (x : Option T) → b ≡ false → (if a && b then x else None) ≡ None
-if_neither x0 b x e = grind (arith, common_steps)
-
-if_not : {T : Type 0} (a b : Bool) (x : Option T) → a ≡ false → (if a && b then x else None) ≡ None
-if_not a b x e = ap (λ c. if c && b then x else None) e
+if_out : {T : Type 0} (a b : Bool) (x : Option T) → (a && b) ≡ false → (if a && b then x else None) ≡ None
+if_out a b x e = ap (λ c. if c then x else None) e
 
 module _ {T : Type 0} where
   -- what the last handle of a slot names, in this frame if one is open
@@ -27,13 +21,7 @@ module _ {T : Type 0} where
   -- if each slot shows what it showed, all handles name what they named
   pub names_kept : (number frame : ℕ) (opened : Bool) (old new : List (Slot T)) → ((p : ℕ) → ShowsSame frame opened (slot_at old p) (slot_at new p)) → sets_of number frame opened new ≡ sets_of number frame opened old
   names_kept number frame opened old new same i = record {
-    set = λ h. (
-        let o = slot_at old h.place in
-        let n = slot_at new h.place in
-        if_both (is_last number new h) (is_live frame opened n.used) n.set
-        ∙ ap (λ g. if (h.manager == number) && (h.generation == g) then shown frame opened n else None) (same h.place).generation
-        ∙ ap (λ x. if is_last number old h then x else None) (same h.place).set
-        ∙ sym (if_both (is_last number old h) (is_live frame opened o.used) o.set)) i;
+    set = λ h. (let same : (sets_of number frame opened new).set h ≡ (sets_of number frame opened old).set h = grind (arith, common_steps, (same h.place).generation, (same h.place).set) in same i);
     given = λ h. ap (λ g. (h.manager == number) && (nat_lt 0 h.generation && nat_le h.generation g)) (same h.place).generation i;
   }
 
@@ -45,9 +33,6 @@ module _ {T : Type 0} where
       (i : ℕ) → i < length handles
       → (slot_at new (place_at handles i)).generation ≡ (slot_at old (place_at handles i)).generation)
       (rest : (p : ℕ) → ((i : ℕ) → i < length handles → place_at handles i ≢ p) → slot_at new p ≡ slot_at old p) where
-    abbrev zero_handle : SetHandle
-    zero_handle = record { manager = 0; place = 0; generation = 0 }
-
     removed : (p : ℕ) → (slot_at new p).generation ≡ (slot_at old p).generation
     removed p = search (rules, named_or)
 
@@ -58,7 +43,7 @@ module _ {T : Type 0} where
     -- the handles name nothing, and each other one what it named
     pub names_lost : LoseNames handles (sets_of number frame opened old) (sets_of number frame opened new)
     names_lost = record {
-      gone = λ i d lt. if_neither _ _ _ (ap (λ (h : SetHandle). is_live frame opened (slot_at new h.place).used) (get_or_default handles i d zero_handle lt) ∙ quiet i lt);
-      others = λ other apart. search (rules, removed, if_not, named_or, not_last);
+      gone = λ i d lt. (let h = slice_index_or handles i d in if_out (is_last number new h) (is_live frame opened (slot_at new h.place).used) (slot_at new h.place).set (and_right (is_last number new h) _ (ap (λ (h : SetHandle). is_live frame opened (slot_at new h.place).used) (get_or_default handles i d (record { manager = 0; place = 0; generation = 0 }) lt) ∙ quiet i lt)));
+      others = λ other apart. search (rules, removed, if_out, and_left, named_or, not_last);
       given = λ h. ap (λ g. (h.manager == number) && (nat_lt 0 h.generation && nat_le h.generation g)) (removed h.place);
     }

@@ -1,6 +1,6 @@
 -- A set that comes into a slot, gets a handle, or leaves: for `SetTable::put`, `hold_kept`, `take_out` and `take_listed`, and for `Store`.
 -- `old` are the slots before, `mid` those once the slot was picked from its list or its set taken out, `new` those after.
-use Rattle.descriptor_table.proofs.Common.{common_steps, ◌≡◌, ◌≢◌, ℕ, ◌+◌, ◌<◌, ◌≤◌, Bool, true, false, List, length, set, Option, None, is_some, refl, arith, rules, length-set, set-set, false≢true, count, filled, is_in, slot_at, At, GivesAny, HasRoom, Picks, Puts, Stays, is_usable, slots_of}
+use Rattle.descriptor_table.proofs.Common.{common_steps, ◌≡◌, ℕ, ◌+◌, ◌<◌, ◌≤◌, Bool, true, false, List, length, set, Option, None, option_map, is_some, refl, arith, rules, length-set, set-set, false≢true, count, filled, space_in, is_in, slot_at, At, GivesAny, HasRoom, Picks, Puts, Stays, is_usable, slots_of}
 use Rattle.descriptor_table.proofs.Common.{used_for, vacated, SetTable, Taken, Slot}
 use Rattle.descriptor_table.proofs.Chains.{and_true}
 use Rattle.descriptor_table.proofs.Counts.{count_set}
@@ -20,16 +20,12 @@ module _ {T : Type 0} where
   room_stays n a b stays long usable room = grind (arith, common_steps)
 
   -- a vacant slot is used, and so there is room for one fewer
-  pub room_less : (n p : ℕ) (s t : Slot T) (a b : SetTable T) (mid : List (Slot T)) → is_usable (slot_at (slots_of a) p) ≡ true → mid ≡ set (slots_of a) p s → slots_of b ≡ set mid p t → is_usable t ≡ false → Stays a b → HasRoom (n + 1) a → HasRoom n b
+  pub room_less : (n p : ℕ) (s t : Slot T) (a b : SetTable T) (mid : List (Slot T)) → is_usable (slot_at (slots_of a) p) ≡ true → mid ≡ set (slots_of a) p s → slots_of b ≡ set mid p t → is_usable t ≡ false → space_in b.slots ≡ space_in a.slots → HasRoom (n + 1) a → HasRoom n b
   room_less n p s t a b mid usable put is used stays room = grind (arith, common_steps, bit, count_set, length-set, set-set, test_within is_usable (slots_of a) p refl usable)
 
   -- a set that passes the test left its list, then its slot
-  pub gives : (test : Slot T → Bool) (p : ℕ) (r : Option T) (old mid new : List (Slot T)) → Picks test (used_for Taken) p old mid → is_some (slot_at old p).set ≡ true → r ≡ (slot_at mid p).set → (is_some r ≡ true → new ≡ set mid p (vacated (slot_at mid p))) → GivesAny test r old new
-  gives test p x2 old mid new picks full taken is = search (rules, false≢true, set-set, slot_set)
-
-  -- a slot of a list of sets has one
-  pub listed_full : (k : ℕ) (s : Slot T) → k ≢ 0 → is_in k s ≡ true → is_some s.set ≡ true
-  listed_full k s some e = search rules
+  pub gives : (test : Slot T → Bool) (ids : ℕ → ℕ) (p : ℕ) (r : Option (ℕ × T)) (old mid new : List (Slot T)) → Picks test (used_for Taken) p old mid → is_some (slot_at old p).set ≡ true → r ≡ option_map (λ x. (ids (slot_at mid p).layout, x)) (slot_at mid p).set → new ≡ set mid p (vacated (slot_at mid p)) → GivesAny test (λ s. option_map (λ x. (ids s.layout, x)) s.set) r old new
+  gives test ids p x2 old mid new picks full taken is = search (rules, false≢true, set-set, slot_set)
 
   -- a kept set is there, and its place has a generation left
   pub kept_is : (k : ℕ) (s : Slot T) → 2 ≤ k → is_in k s ≡ true → (s.generation < 4294967295) × (is_some s.set ≡ true)

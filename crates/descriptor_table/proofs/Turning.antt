@@ -1,26 +1,19 @@
 -- Slots that pass a test are changed, one after another, as in the loops of `SetTable`: `settle_due`, `age`, `trim` and others.
 -- `old` are the slots before a loop, `now` those before a step of it, `new` those after; `Turning` is the loop's invariant, and `Turns`
 -- what it leaves at its end. A set that is freed *settles*: it is kept, or goes. `o` is a slot before that, `n` the same slot after.
-use Rattle.descriptor_table.proofs.Common.{common_steps, ◌≡◌, ◌≢◌, ℕ, zero, suc, ◌+◌, ◌<◌, ◌≤◌, ◌⊎◌, ◌&&◌, Bool, true, false, if◌then◌else◌, List, [], ◌∷◌, length, set, ne_eqb, is_some, inl, refl, sym, ap, ◌∙◌, arith, nat_le, rules, length-set, set-set, cases_eq, ltb-false, true≢false}
-use Rattle.descriptor_table.proofs.Common.{IsNowhere, Slot, count, is_due, is_in, slot_at, waits_for, Settings, IsBack, MayBecome, Picks, Stays, Turns, removed_of, is_kept, next_use, used_for, Becomes, settings_of, SetTable, Use, Going, Taken}
+use Rattle.descriptor_table.proofs.Common.{common_steps, ◌≡◌, ◌≢◌, ℕ, ◌+◌, ◌<◌, ◌≤◌, ◌⊎◌, ◌&&◌, Bool, true, false, List, length, set, ne_eqb, is_some, ap, arith, nat_le, rules, length-set, set-set, cases_eq, ltb-false, true≢false}
+use Rattle.descriptor_table.proofs.Common.{IsNowhere, Slot, count, is_due, is_in, slot_at, waits_for, IsBack, MayBecome, Picks, Stays, Turns, is_kept, next_use, used_for, Becomes, SetTable, Use, Going, Taken}
 use Rattle.descriptor_table.proofs.Chains.{and_true, lists_apart, nowhere_out}
 use Rattle.descriptor_table.proofs.Counts.{count_same, count_set, same_count}
 use Rattle.descriptor_table.proofs.Listed.{bit, other_slots, slot_set, with_use}
 
 module _ {T : Type 0} where
-  -- a slot in use for one thing after another
-  pub use_again : (slots : List (Slot T)) (p : ℕ) (u v : Use) → p < length slots → with_use p v (with_use p u slots) ≡ with_use p v slots
-  use_again slots p u v within = set-set slots p (used_for u (slot_at slots p)) (used_for v (slot_at (with_use p u slots) p)) ∙ ap (λ s. set slots p (used_for v s)) (slot_set slots p (used_for u (slot_at slots p)) within)
-
   -- some of the slots that pass the test have turned
   pub record Turning (test : Slot T → Bool) (becomes : List (Slot T) → Slot T → Slot T → Type 0) (old now : List (Slot T)) : Type 0 where
     pub long : length now ≡ length old
     pub each : (p : ℕ) → (slot_at now p ≡ slot_at old p) ⊎ ((test (slot_at old p) ≡ true) × becomes now (slot_at old p) (slot_at now p))
 
   module _ (test : Slot T → Bool) (becomes : List (Slot T) → Slot T → Slot T → Type 0) where
-    pub turn_start : (old : List (Slot T)) → Turning test becomes old old
-    turn_start old = record { long = refl; each = λ p. inl refl }
-
     -- the slot at a place turned, which passed the test
     pub turn_step :
         (old now new : List (Slot T)) (p : ℕ) (s : Slot T) → Turning test becomes old now → p < length now
@@ -29,15 +22,11 @@ module _ {T : Type 0} where
         → Turning test becomes old new
     turn_step old now new p s turning within was is grows done turned = search (rules, length-set, other_slots, cases_eq, slot_set, true≢false)
 
-    -- no slot is left that passes the test
-    pub turn_end : (old now : List (Slot T)) → Turning test becomes old now → ((p : ℕ) → test (slot_at now p) ≡ false) → Turns test becomes old now
-    turn_end old now turning none = search (rules, true≢false)
-
   -- a set of a slot that is in no list settled
   module _ (removed : ℕ → Bool) (max : ℕ) (now mid new : List (Slot T)) (p : ℕ) (within : p < length now) (out : (k : ℕ) → is_in k (slot_at now p) ≡ false) (u : Use) (idle : IsNowhere u) (left : mid ≡ with_use p u now) (is : new ≡ with_use p (next_use removed max mid p) mid) where
     -- only the use of its slot changed
     pub settled_set : new ≡ set now p (used_for (next_use removed max mid p) (slot_at now p))
-    settled_set = is ∙ ap (λ l. with_use p (next_use removed max mid p) l) left ∙ use_again now p u (next_use removed max mid p) within
+    settled_set = grind (arith, common_steps, set-set, slot_set)
 
     -- of sets that settled before it `IsBack` still holds, as no fewer sets of any layout are kept than then
     pub settled_grows : (o n : Slot T) → IsBack (used_for Going) removed max now o n → IsBack (used_for Going) removed max new o n
@@ -47,58 +36,23 @@ module _ {T : Type 0} where
     pub settled_here : IsBack (used_for Going) removed max new (slot_at now p) (used_for (next_use removed max mid p) (slot_at now p))
     settled_here = search (rules, and_true, count_set, ltb-false, nowhere_out, same_count, settled_set, slot_set)
 
-  -- a set that settled waits no longer
-  pub settled_not_due : (removed : ℕ → Bool) (frame max : ℕ) (l : List (Slot T)) (o n : Slot T) → IsBack (used_for Going) removed max l o n → is_due frame n ≡ false
-  settled_not_due removed frame max l o n x6 = grind (arith, common_steps)
-
-  -- a set that waits, or that a call has, is in no list
-  pub due_not_listed : (frame : ℕ) (s : Slot T) → is_due frame s ≡ true → (k : ℕ) → is_in k s ≡ false
-  due_not_listed frame s e k = search rules
-
   pub due_full : (frame : ℕ) (s : Slot T) → is_due frame s ≡ true → is_some s.set ≡ true
   due_full frame s e = (and_true (waits_for (λ w. nat_le w frame) s.used) (is_some s.set) e).1
-
-  -- a slot in use as before
-  pub same_use : (slots : List (Slot T)) (p : ℕ) (u : Use) → (slot_at slots p).used ≡ u → p < length slots → with_use p u slots ≡ slots
-  same_use [] p u e lt = refl
-  same_use (s ∷ slots) zero u e lt = ap (λ v. used_for v s ∷ slots) (sym e)
-  same_use (s ∷ slots) (suc p) u e lt = ap (λ l. s ∷ l) (same_use slots p u e (omega arith))
 
   pub stays_more : (a b c : SetTable T) → Stays a b → Stays b c → Stays a c
   stays_more a b c one two = search rules
 
-  -- with settings as they were, a freed set comes to the same use
-  pub same_next : (a b : SetTable T) → settings_of b ≡ settings_of a → (slots : List (Slot T)) (p : ℕ) → next_use (removed_of b) b.keep slots p ≡ next_use (removed_of a) a.keep slots p
-  same_next a b same slots p = ap (λ (s : Settings). next_use s.removed s.keep slots p) same
-
-  -- a slot that passed the test doesn't any more
-  pub one_less : (test : Slot T → Bool) (now new : List (Slot T)) (p : ℕ) (s : Slot T) → p < length now → test (slot_at now p) ≡ true → test s ≡ false → new ≡ set now p s → count test new + 1 ≡ count test now
-  one_less test now new p s within was gone is = search (rules, bit, count_set)
-
   -- a step of a loop whose sets go: a slot that passed the test was picked, and goes
   module _ (test : Slot T → Bool) (now mid new : List (Slot T)) (p : ℕ) (picks : Picks test (used_for Taken) p now mid) (goes : new ≡ with_use p Going mid) (out : (s : Slot T) → test (used_for Going s) ≡ false) where
     pub go_step : (old : List (Slot T)) → Turning test (Becomes (used_for Going)) old now → Turning test (Becomes (used_for Going)) old new
-    go_step old turning = search (rules, use_again, turn_step)
+    go_step old turning = search (rules, set-set, slot_set, turn_step)
 
     pub go_less : count test new + 1 ≡ count test now
-    go_less = grind (arith, common_steps, bit, count_set, use_again)
-
-  -- what becomes of the slots when a slot turns, if it passes the test
-  pub record TurnsOne (test : Slot T → Bool) (becomes : List (Slot T) → Slot T → Slot T → Type 0) (old now new : List (Slot T)) (p : ℕ) : Type 0 where
-    pub turning : Turning test becomes old new
-    pub here : test (slot_at new p) ≡ false
-    pub others : (q : ℕ) → test (slot_at now q) ≡ false → test (slot_at new q) ≡ false
-
-  -- a step of a loop at a place: a slot that passes the test comes to be in use for something, and doesn't pass it then
-  pub use_one : (test : Slot T → Bool) (u : Use) (old now new : List (Slot T)) (p : ℕ) → Turning test (λ l o n. n ≡ used_for u o) old now → p < length now → new ≡ (if test (slot_at now p) then set now p (used_for u (slot_at now p)) else now) → ((s : Slot T) → test (used_for u s) ≡ false) → TurnsOne test (λ l o n. n ≡ used_for u o) old now new p
-  use_one test u old now new p turning within is out = search (rules, other_slots, cases_eq, slot_set, turn_step, with_use)
+    go_less = grind (arith, common_steps, bit, count_set, set-set, slot_set)
 
   -- a set that goes is in no list of kept sets
   pub going_out : (k : ℕ) (s : Slot T) → 2 ≤ k → is_in k (used_for Going s) ≡ false
   going_out k s two = ap (λ b. b && is_some s.set) (ne_eqb k 1 (λ e. omega arith))
-
-  pub stays_same : (a : SetTable T) → Stays a a
-  stays_same a = record { settings = refl; space = refl }
 
   module _ (k : ℕ) (two : 2 ≤ k) (now new : List (Slot T)) (turns : Turns (is_in k) (MayBecome (used_for Going)) now new) where
     -- after kept sets of one list more may have gone

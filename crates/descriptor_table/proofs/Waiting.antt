@@ -1,17 +1,13 @@
 -- The queue of the sets that wait, when sets come to it or leave it: for `insert` and those that call it, and for `SetTable::take_first`.
-use Rattle.descriptor_table.proofs.Common.{common_steps, ◌≡◌, ◌≢◌, ℕ, suc, ◌+◌, ◌-◌, ◌<◌, ◌≤◌, true, false, List, [], ◌∷◌, ◌++◌, length, get_or, set, refl, sym, ap, subst, ◌∙◌, arith, rules, cases_eq, ◌⊎◌, last_or, true≢false}
+use Rattle.descriptor_table.proofs.Common.{common_steps, ◌≡◌, ◌≢◌, ℕ, suc, ◌+◌, ◌-◌, ◌<◌, ◌≤◌, true, false, List, [], ◌∷◌, ◌++◌, length, get_or, set, refl, sym, ap, subst, ◌∙◌, arith, rules, cases_eq, ◌⊎◌, last_or}
 use Rattle.descriptor_table.proofs.Common.{last_up_to, nat_le, Lists, IsNonDecreasingBy, times, IsQueue, Slot, frame_at, frame_of, is_due, None, Option, Some, nexts_in, slot_at, slots_of, waits, waits_for, is_some, length-set, places_in, walk, Queue, Use, SetTable}
 use Rattle.std.proofs.lemmas.List.{append-nil, length-append}
 use Rattle.descriptor_table.proofs.Counting.{cut_past, passed_cut, passed_same, last_in, last_rest, last_some, past_first, rises_first, rises_last, rises_parts, rises_same, times_append, times_here, times_there, walk_length}
 use Rattle.std.specs.List.{filter}
 use Rattle.descriptor_table.proofs.Counts.{lists_few}
-use Rattle.descriptor_table.proofs.Listed.{first_passes, lists_other, lists_pop, member, not_listed, one_none, other_slots, slot_set, test_within}
+use Rattle.descriptor_table.proofs.Listed.{first_passes, lists_other, lists_pop, not_listed, other_slots, slot_set, test_within}
 
 module _ {T : Type 0} where
-  -- a set isn't due if it waits for a later frame, or doesn't wait
-  not_due : (f : ℕ) (s : Slot T) → (waits s ≡ true → f < frame_of s.used) → is_due f s ≡ false
-  not_due f s late = search rules
-
   -- a slot changed that isn't in a list: the frames along the list stay
   other_rises : (slots : List (Slot T)) (p : ℕ) (s : Slot T) (l : List ℕ) → times p l ≡ 0 → IsNonDecreasingBy (frame_at slots) l → IsNonDecreasingBy (frame_at (set slots p s)) l
   other_rises slots p s l none = rises_same (frame_at slots) (frame_at (set slots p s)) l (λ q some. ap (λ (s : Slot T). frame_of s.used) (other_slots slots p s q (λ e. some (ap (λ q. times q l) e ∙ none))))
@@ -50,10 +46,7 @@ module _ {T : Type 0} where
   module _ (slots : List (Slot T)) (l : List ℕ) (last : ℕ) (queue : IsQueue slots l last) where
     -- the sets of the queue wait
     pub in_waits : (p : ℕ) → times p l ≢ 0 → waits (slot_at slots p) ≡ true
-    in_waits p some = member (waits (slot_at slots p)) (λ out. some (not_listed waits slots l p queue.has out))
-
-    pub queue_last : length l ≢ 0 → times last l ≢ 0
-    queue_last some = last_in last l (last_some l last some queue.ends)
+    in_waits p some = grind (arith, common_steps, queue.has p)
 
     -- a slot changed that isn't in the queue
     pub out_queue : (p : ℕ) (s : Slot T) → p < length slots → waits (slot_at slots p) ≡ false → waits s ≡ false → IsQueue (set slots p s) l last
@@ -81,20 +74,9 @@ module _ {T : Type 0} where
     pub still_near : (near : Option ℕ) → near ≡ last_up_to old f l → Comes new l f still_rises near
     still_near near is = is ∙ ap (last_or None) (sym (passed_same (frame_at old) (frame_at new) f l (λ p some. (still p some).1)))
 
-    pub comes_frame : (p : ℕ) → times p b ≢ 0 → frame_at new p ≡ f
-    comes_frame p some = grind (arith, comes p)
-
   -- one set came to this use, and waits
   pub set_comes : (old new : List (Slot T)) (p : ℕ) (s : Slot T) (u : Use) → new ≡ set old p s → p < length new → waits (slot_at old p) ≡ false → s.used ≡ u → is_some s.set ≡ true → waits_for (λ f. true) u ≡ true → (q : ℕ) → ComesAt old new (p ∷ []) (frame_of u) q
   set_comes old new p s u made within was used full now q = search (rules, cases_eq q p, times_here p [], times_there q p [], slot_set old p s, other_slots old p s q, length-set, made)
-
-  -- a queue stays if the nexts do, and so does a place in it
-  module _ (slots : List (Slot T)) (f : ℕ) (next next' : List ℕ) (q : Queue) where
-    pub queue_nexts : next ≡ next' → IsQueue slots (places_in next q) q.last → IsQueue slots (places_in next' q) q.last
-    queue_nexts same = subst (λ n. IsQueue slots (places_in n q) q.last) same
-
-    pub near_nexts : (near : Option ℕ) → next ≡ next' → near ≡ last_up_to slots f (places_in next q) → near ≡ last_up_to slots f (places_in next' q)
-    near_nexts near same is = is ∙ ap (λ n. last_up_to slots f (places_in n q)) same
 
   -- the first set leaves the queue
   module _ (slots : List (Slot T)) (p : ℕ) (l : List ℕ) (last : ℕ) (queue : IsQueue slots (p ∷ l) last) where
@@ -106,7 +88,7 @@ module _ {T : Type 0} where
 
     -- no set is due if the first one waits for a later frame
     pub none_due : (f : ℕ) → f < frame_at slots p → (q : ℕ) → is_due f (slot_at slots q) ≡ false
-    none_due f late q = not_due f (slot_at slots q) (λ is. omega (arith, late, rises_first (frame_at slots) p q l queue.rises (λ none. true≢false (sym is ∙ one_none (waits (slot_at slots q)) (sym (queue.has q) ∙ none)))))
+    none_due f late q = grind (arith, common_steps, rises_first (frame_at slots) p q l queue.rises, queue.has q)
 
   -- the list of a queue with places is its first one, and then what begins with the next of that
   pub head_queue : (slots : List (Slot T)) (next : List ℕ) (q : Queue) → q.list.count ≢ 0 → IsQueue slots (places_in next q) q.last → IsQueue slots (q.list.first ∷ walk (q.list.count - 1) next (get_or next q.list.first 0)) q.last
@@ -118,5 +100,5 @@ module _ {T : Type 0} where
   -- the last set of a table's queue waits, so it is there
   pub last_waits : (t : SetTable T) → t.waiting.list.count ≢ 0 → (t.waiting.last < length (slots_of t)) × (waits (slot_at (slots_of t) t.waiting.last) ≡ true)
   last_waits t some =
-      let is = in_waits (slots_of t) (places_in (nexts_in t.slots) t.waiting) t.waiting.last t.sound.queue t.waiting.last (queue_last (slots_of t) (places_in (nexts_in t.slots) t.waiting) t.waiting.last t.sound.queue (omega (arith, some, walk_length t.waiting.list.count (nexts_in t.slots) t.waiting.list.first))) in
-      (test_within waits (slots_of t) t.waiting.last refl is, is)
+      let places = places_in (nexts_in t.slots) t.waiting in
+      grind (arith, common_steps, t.sound.queue.ends, last_in t.waiting.last places, last_some places t.waiting.last, walk_length t.waiting.list.count (nexts_in t.slots) t.waiting.list.first, in_waits (slots_of t) places t.waiting.last t.sound.queue t.waiting.last, test_within waits (slots_of t) t.waiting.last refl)

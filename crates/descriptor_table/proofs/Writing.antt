@@ -17,16 +17,13 @@ module _ {T : Type 0} (t : SetTable T) (k p : ℕ) (s : Slot T) (within : p < le
     still : (q x : ℕ) (next : List ℕ) → waits (slot_at (slots_of t) q) ≡ false → places_in next t.waiting ≡ places_in (nexts_in t.slots) t.waiting → places_in (set next q x) t.waiting ≡ places_in (nexts_in t.slots) t.waiting
     still q x next out same = walk_other t.waiting.list.count next t.waiting.list.first q x (ap (times q) same ∙ not_listed waits (slots_of t) _ q t.sound.queue.has out) ∙ same
 
-    here : (x : ℕ) → places_in (set (nexts_in t.slots) p x) t.waiting ≡ places_in (nexts_in t.slots) t.waiting
-    here x = still p x (nexts_in t.slots) (nowhere_out (slot_at (slots_of t) p) idle).0 refl
-
     came_sound : (first : ℕ) (next : List ℕ) → places_in next t.waiting ≡ places_in (nexts_in t.slots) t.waiting → nexts_in l ≡ next → AreLinked (set (slots_of t) p s) next (set (chains_in t.lists) k (record { first = first; count = (chain_at (chains_in t.lists) k).count + 1 })) → AreSound l (set (chains_in t.lists) k (record { first = first; count = (chain_at (chains_in t.lists) k).count + 1 })) (layouts_of t) t.waiting t.keep
     came_sound first next same nexts linked = link_sound t.slots l (chains_in t.lists) (layouts_of t) t.waiting t.keep t.sound p s slots k first (chain_at (chains_in t.lists) k) next refl nexts linked there within idle goes (listed t.slots l (chains_in t.lists) (layouts_of t) t.waiting t.keep t.sound p s within layout (λ held. absurd (held_nowhere s k goes held))) few same
 
     -- first
     pub front_sound : nexts_in l ≡ set (nexts_in t.slots) p (chain_at (chains_in t.lists) k).first → AreSound l (set (chains_in t.lists) k (record { first = p; count = (chain_at (chains_in t.lists) k).count + 1 })) (layouts_of t) t.waiting t.keep
-    front_sound nexts = came_sound p _ (here _) nexts (link_linked (slots_of t) (nexts_in t.slots) (chains_in t.lists) t.sound.linked k (chain_at (chains_in t.lists) k) refl p s within idle goes (same_long t.slots) there)
+    front_sound nexts = came_sound p _ (still p _ (nexts_in t.slots) (nowhere_out (slot_at (slots_of t) p) idle).0 refl) nexts (link_linked (slots_of t) (nexts_in t.slots) (chains_in t.lists) t.sound.linked k (chain_at (chains_in t.lists) k) refl p s within idle goes (same_long t.slots) there)
 
     -- or after another slot of the list
     pub after_sound : (near : ℕ) → is_in k (slot_at (slots_of t) near) ≡ true → nexts_in l ≡ set (set (nexts_in t.slots) p (get_or (nexts_in t.slots) near 0)) near p → AreSound l (set (chains_in t.lists) k (record { first = (chain_at (chains_in t.lists) k).first; count = (chain_at (chains_in t.lists) k).count + 1 })) (layouts_of t) t.waiting t.keep
-    after_sound near has nexts = came_sound _ _ (still near p _ (listed_out k (slot_at (slots_of t) near) has) (here _)) nexts (after_linked (slots_of t) (nexts_in t.slots) (chains_in t.lists) t.sound.linked k (chain_at (chains_in t.lists) k) refl p s within idle goes near has (same_long t.slots) there)
+    after_sound near has nexts = came_sound _ _ (still near p _ (listed_out k (slot_at (slots_of t) near) has) (still p _ (nexts_in t.slots) (nowhere_out (slot_at (slots_of t) p) idle).0 refl)) nexts (after_linked (slots_of t) (nexts_in t.slots) (chains_in t.lists) t.sound.linked k (chain_at (chains_in t.lists) k) refl p s within idle goes near has (same_long t.slots) there)

@@ -1,4 +1,4 @@
-pub mod Giving
+pub mod Groups
 pub mod Handles
 pub mod Lists
 pub mod Places

@@ -1,8 +1,8 @@
 -- The lists of slots without a set, of sets that go, and of the kept sets of each layout.
 use Rattle.std.specs.Prelude.{map, slice_set, ◌≡◌, ℕ, ◌<◌, Bool, false, List, ◌∷◌, length, ⊤}
 use Rattle.descriptor_table.specs.Slots.{chain_at, is_removed, shown}
-use Rattle.descriptor_table.specs.declared.giving.Group.{Group}
-use Rattle.descriptor_table.specs.declared.giving.Group.TheVariants.{Going, KeptOf}
+use Rattle.descriptor_table.specs.declared.group.Group.{Group}
+use Rattle.descriptor_table.specs.declared.group.Group.TheVariants.{Going, KeptOf}
 use Rattle.descriptor_table.specs.declared.lists.Lists.{Lists}
 use Rattle.descriptor_table.specs.declared.slot.Chain.{Chain}
 

@@ -1,10 +1,14 @@
--- Lists of places, and of the numbers of layouts.
-use Rattle.std.specs.Prelude.{◌≡◌, ℕ, zero, suc, ◌+◌, ◌==◌, List, [], ◌∷◌, slice_index, slice_index_or, if◌then◌else◌}
+-- How many of a list pass a test; lists of places, and of the numbers of layouts.
+use Rattle.std.specs.Prelude.{◌≡◌, Bool, ℕ, zero, suc, ◌+◌, ◌==◌, List, [], ◌∷◌, slice_index, slice_index_or, if◌then◌else◌}
+
+-- how many of a list pass the test
+abbrev pub count : {X : Type 0} → (X → Bool) → List X → ℕ
+count test [] = 0
+count test (x ∷ l) = (if test x then 1 else 0) + count test l
 
 -- how often a place is in a list
 abbrev pub times : ℕ → List ℕ → ℕ
-times p [] = 0
-times p (q ∷ l) = (if p == q then 1 else 0) + times p l
+times p = count (λ q. p == q)
 
 -- n places from the first on: each next one is what the list has at the place before
 abbrev pub walk : ℕ → List ℕ → ℕ → List ℕ

@@ -1,13 +1,8 @@
 -- What a caller sees of the slots: sets by handle.
-use Rattle.std.specs.Prelude.{◌≡◌, ◌≢◌, ℕ, ◌<◌, ◌==◌, ◌&&◌, nat_le, nat_lt, All, Bool, true, false, List, [], ◌∷◌, length, slice_index_or, if◌then◌else◌, Option, Some, None, IsSome}
+use Rattle.std.specs.Prelude.{◌≡◌, ◌≢◌, ℕ, ◌<◌, ◌==◌, ◌&&◌, nat_le, nat_lt, All, Bool, true, false, List, length, slice_index_or, if◌then◌else◌, Option, None, IsSome}
 use Rattle.descriptor_table.specs.Slots.{Slots, is_live, slot_at}
 use Rattle.descriptor_table.specs.Tables.{holds}
 use Rattle.descriptor_table.specs.declared.handle.SetHandle.{SetHandle}
-
--- a set, if there is one, before others
-abbrev pub joined : {T : Type 0} → Option T → List T → List T
-joined None sets = sets
-joined (Some set) sets = set ∷ sets
 
 -- no handle is in the list twice
 abbrev pub AreOnce : List SetHandle → Type 0
@@ -21,11 +16,6 @@ pub record Sets (T : Type 0) : Type 0 where
   pub given : SetHandle → Bool
 
 module _ {T : Type 0} where
-  -- all sets, in the order of their slots
-  abbrev pub sets_in : Slots T → List T
-  sets_in [] = []
-  sets_in (s ∷ slots) = joined s.set (sets_in slots)
-
   module _ (number : ℕ) where
     -- whether a handle is the last one that was given for its slot
     abbrev pub is_last : Slots T → SetHandle → Bool

@@ -1,8 +1,8 @@
 -- Slots, and the lists that they are in.
-use Rattle.std.specs.Prelude.{map, slice_set, vec_capacity, Option, Some, ◌≡◌, ℕ, ◌+◌, ◌%◌, ◌<◌, ◌≤◌, ◌==◌, ◌&&◌, nat_le, nat_lt, Bool, true, false, List, [], ◌∷◌, length, ⊤, slice_index_or, if◌then◌else◌, None, is_some, not}
+use Rattle.std.specs.Prelude.{map, slice_set, vec_capacity, Option, Some, ◌≡◌, ℕ, ◌+◌, ◌%◌, ◌<◌, ◌≤◌, ◌==◌, ◌&&◌, nat_le, nat_lt, Bool, true, false, List, length, ⊤, slice_index_or, if◌then◌else◌, None, is_some, not}
 use Rattle.std.specs.List.{filter, last_or}
 use Rattle.std.specs.List.Sorted.{IsNonDecreasingBy}
-use Rattle.descriptor_table.specs.Places.{times, users_at, walk}
+use Rattle.descriptor_table.specs.Places.{count, times, users_at, walk}
 use Rattle.descriptor_table.specs.declared.slot.Use.{Use}
 use Rattle.descriptor_table.specs.declared.slot.Use.TheVariants.{Held, InFrame, Waits, Kept, Going, Taken, Vacant}
 use Rattle.descriptor_table.specs.declared.slot.State.{State}
@@ -175,11 +175,6 @@ module _ {T : Type 0} where
     pub known : (p : ℕ) → p < length (slots_in l) → IsListed layouts (slot_at (slots_in l) p)
     -- at most `keep` sets of a layout are kept
     pub few : (k : ℕ) → 2 ≤ k → (chain_at chains k).count ≤ keep
-
-  -- how many slots pass the test
-  abbrev pub count : (Slot T → Bool) → Slots T → ℕ
-  count test [] = 0
-  count test (s ∷ slots) = (if test s then 1 else 0) + count test slots
 
   -- whether a slot has a set of the layout
   abbrev pub is_set_of : ℕ → Slot T → Bool

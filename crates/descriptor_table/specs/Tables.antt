@@ -1,8 +1,9 @@
 -- How calls change the slots of a table.
 use Rattle.std.specs.Prelude.{◌≡◌, ◌≢◌, ℕ, ◌+◌, ◌-◌, ◌<◌, ◌≤◌, ◌⊎◌, ◌==◌, ◌&&◌, nat_lt, not, Bool, true, false, List, length, slice_index_or, slice_set, vec_capacity, is_some, if◌then◌else◌, Option, Some, None, MatchOption}
-use Rattle.descriptor_table.specs.Slots.{Slot, Slots, count, slots_in, space_in, filled, is_in, is_kept_of, is_set_of, slot_at}
+use Rattle.descriptor_table.specs.Slots.{Slot, Slots, slots_in, space_in, filled, is_in, is_kept_of, is_set_of, slot_at}
+use Rattle.descriptor_table.specs.Places.{count}
 use Rattle.descriptor_table.specs.Lists.{layouts_in, removed_in}
-use Rattle.descriptor_table.specs.Users.{HasNumberRoom}
+use Rattle.descriptor_table.specs.Users.{HasNumberRoom, ids_in}
 use Rattle.descriptor_table.specs.declared.handle.SetHandle.{SetHandle}
 use Rattle.descriptor_table.specs.declared.set_table.SetTable.{SetTable}
 use Rattle.descriptor_table.specs.declared.slot.Use.{Use}
@@ -53,18 +54,24 @@ module _ {T : Type 0} where
   abbrev pub removed_of : SetTable T → ℕ → Bool
   removed_of t = removed_in t.lists
 
+  -- the id of each layout's sets, by its number
+  abbrev pub ids_of : SetTable T → ℕ → ℕ
+  ids_of t = ids_in t.users
+
   -- the settings of a table
   abbrev pub settings_of : SetTable T → Settings
   settings_of t = record { number = t.number; layouts = layouts_of t; removed = removed_of t; keep = t.keep }
 
-  -- the settings became these, and the slots are as they were
+  -- the settings became these, and slots and ids are as they were
   pub record OnlySettings (these : Settings) (old new : SetTable T) : Type 0 where
     pub slots : new.slots ≡ old.slots
+    pub ids : ids_of new ≡ ids_of old
     pub settings : settings_of new ≡ these
 
-  -- the settings and memory are as they were
+  -- settings, ids and memory are as they were
   pub record Stays (old new : SetTable T) : Type 0 where
     pub settings : settings_of new ≡ settings_of old
+    pub ids : ids_of new ≡ ids_of old
     pub space : space_in new.slots ≡ space_in old.slots
 
   -- the slots became what the relation says, and all else is as it was
@@ -103,14 +110,10 @@ module _ {T : Type 0} where
   abbrev pub HasRoom : ℕ → SetTable T → Type 0
   HasRoom n t = HasPlaces (n - count is_usable (slots_of t)) t
 
-  -- a call has taken the slot
-  pub record IsTaken (p : ℕ) (slots : Slots T) : Type 0 where
-    pub within : p < length slots
-    pub taken : (slot_at slots p).used ≡ Taken
-
   -- a call has taken the slot, and a set is in it
   pub record HasTaken (p : ℕ) (slots : Slots T) : Type 0 where
-    pub taken : IsTaken p slots
+    pub within : p < length slots
+    pub taken : (slot_at slots p).used ≡ Taken
     pub full : is_some (slot_at slots p).set ≡ true
 
   -- the slot passed the test, and became this
@@ -205,9 +208,9 @@ module _ {T : Type 0} where
   abbrev pub vacated : Slot T → Slot T
   vacated s = record s { used = Vacant; set = None }
 
-  -- a set that passes the test was taken out of its slot, or there is none
-  abbrev pub GivesAny : (Slot T → Bool) → Option T → Slots T → Slots T → Type 0
-  GivesAny test result old new = MatchOption result (PicksNone test old new) (λ x. (p : ℕ) × Picks test vacated p old new × ((slot_at old p).set ≡ Some x))
+  -- what one slot that passes the test has by this view was taken out of it, or no slot passes the test
+  abbrev pub GivesAny : {X : Type 0} → (Slot T → Bool) → (Slot T → Option X) → Option X → Slots T → Slots T → Type 0
+  GivesAny test view result old new = MatchOption result (PicksNone test old new) (λ x. (p : ℕ) × Picks test vacated p old new × (view (slot_at old p) ≡ Some x))
 
   -- the slots of the handles became what the relation says, given the new slots. All others are as they were
   pub record TurnEach (handles : List SetHandle) (becomes : Slots T → Slot T → Slot T → Type 0) (old new : Slots T) : Type 0 where

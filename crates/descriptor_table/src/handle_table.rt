@@ -24,7 +24,7 @@ pub struct HandleTable<T> {
         → (slot_at (slots_in slots) p).used ≡ Use.Vacant },
 }
 
-impl<T> HandleTable<T> {
+impl<T: Drop> HandleTable<T> {
     ghost use Rattle.descriptor_table.specs.Handles.{HasPlace, values_of};
     ghost use Rattle.descriptor_table.specs.Sets.{find, is_held};
     ghost use Rattle.descriptor_table.specs.Slots.{Slots};

@@ -2,7 +2,7 @@
 //! reused.
 #![tactic(auto)]
 
-mod giving;
+mod group;
 mod handle;
 mod handle_table;
 mod lists;
@@ -11,7 +11,7 @@ mod slot;
 mod slot_list;
 mod users;
 
-pub use giving::{Giving, Group};
+pub use group::Group;
 pub use handle::{SetHandle, SetName, place_of};
 pub use handle_table::HandleTable;
 pub use set_table::SetTable;

@@ -1,7 +1,7 @@
 //! The lists of slots without a set, of sets that go, and of the kept sets of each layout.
 ghost use Rattle.std.specs.Prelude.{◌≡◌, ◌≢◌, ◌+◌, ◌-◌, ◌<◌, ◌≤◌, [], ◌∷◌, ◌++◌, false, true, slice_set, vec_capacity};
 
-use crate::giving::Group;
+use crate::group::Group;
 use crate::slot::Chain;
 use std::alloc::Global;
 use std::vec::Vec;
@@ -20,7 +20,7 @@ pub struct Lists {
 }
 
 impl Lists {
-    ghost use Rattle.descriptor_table.specs.Giving.{list_of};
+    ghost use Rattle.descriptor_table.specs.Groups.{list_of};
     ghost use Rattle.descriptor_table.specs.Lists.{HasList, Relisted, chains_in, layouts_in, removed_in};
     ghost use Rattle.descriptor_table.specs.Slots.{chain_at};
     ghost use Rattle.descriptor_table.specs.Tables.{removed_as};

@@ -2,7 +2,8 @@
 ghost use Rattle.std.specs.Prelude.{◌≡◌, ◌+◌, ◌<◌, ◌&&◌, [], length, true, if◌then◌else◌, IfSome, IsOk, None, OnErr, OnOk, false};
 ghost use Rattle.std.specs.Option.{option_copied};
 ghost use Rattle.descriptor_table.specs.Lists.{chains_in, layouts_in, removed_in};
-ghost use Rattle.descriptor_table.specs.Slots.{AreCounted, AreSound, count, no_slot, slot_at, slot_of, slots_in};
+ghost use Rattle.descriptor_table.specs.Slots.{AreCounted, AreSound, no_slot, slot_at, slot_of, slots_in};
+ghost use Rattle.descriptor_table.specs.Places.{count};
 ghost use Rattle.descriptor_table.specs.Users.{users_in};
 
 mod back;
@@ -57,7 +58,7 @@ pub struct SetTable<T> {
 
 impl<T> SetTable<T> {
     ghost use Rattle.descriptor_table.specs.Sets.{find};
-    ghost use Rattle.descriptor_table.specs.Tables.{HasPlaces, HasRoom, settings_of};
+    ghost use Rattle.descriptor_table.specs.Tables.{HasPlaces, HasRoom, ids_of, settings_of};
     ghost use Rattle.descriptor_table.specs.Tables.{is_usable, slots_of};
 
     /// A table without sets and layouts. It allocates no memory.
@@ -107,6 +108,7 @@ impl<T> SetTable<T> {
         ensures full { OnErr result (count is_usable (slots_of self.old) < additional) }
         ensures slots { slots_of self.new ≡ slots_of self.old }
         ensures settings { settings_of self.new ≡ settings_of self.old }
+        ensures ids { ids_of self.new ≡ ids_of self.old }
     {
         let vacant = self.lists.vacant.count;
         if additional <= vacant {
@@ -121,6 +123,7 @@ impl<T> SetTable<T> {
         ensures fits { HasPlaces additional self.old → IsOk result }
         ensures slots { slots_of self.new ≡ slots_of self.old }
         ensures settings { settings_of self.new ≡ settings_of self.old }
+        ensures ids { ids_of self.new ≡ ids_of self.old }
     {
         let places = self.slots.len() as u64 + u64::from(additional);
         if places > MAX_SLOTS {

@@ -301,6 +301,21 @@ impl<T> SlotList<T> {
         entry.set.take()
     }
 
+    /// Adds a slot without a set, in reserved memory.
+    pub(crate) fn push(&mut self)
+        requires { length (slots_in self.old) < space_in self.old }
+        ensures slots { slots_in self.new ≡ slots_in self.old ++ no_slot ∷ [] }
+        ensures nexts { nexts_in self.new ≡ nexts_in self.old ++ 0 ∷ [] }
+        ensures space { space_in self.new ≡ space_in self.old }
+    {
+        self.entries.push_reserved(Entry::new());
+    }
+}
+
+impl<T: Drop> SlotList<T> {
+    ghost use Rattle.descriptor_table.specs.Slots.{Writes, filled, nexts_in, slot_at, slots_in};
+    ghost use Rattle.descriptor_table.specs.Tables.{renewed};
+
     /// Puts a set into a slot that has none, and to a use. `generation` is the slot's next one.
     #[inline]
     pub(crate) fn fill(
@@ -323,20 +338,7 @@ impl<T> SlotList<T> {
         entry.generation = generation;
         entry.list = layout;
         entry.group = group;
-        match entry.set.replace(set) {
-            None => {}
-            Some(_) => unreachable!(),
-        }
+        entry.set = Some(set);
         entry.set_use(used);
-    }
-
-    /// Adds a slot without a set, in reserved memory.
-    pub(crate) fn push(&mut self)
-        requires { length (slots_in self.old) < space_in self.old }
-        ensures slots { slots_in self.new ≡ slots_in self.old ++ no_slot ∷ [] }
-        ensures nexts { nexts_in self.new ≡ nexts_in self.old ++ 0 ∷ [] }
-        ensures space { space_in self.new ≡ space_in self.old }
-    {
-        self.entries.push_reserved(Entry::new());
     }
 }

@@ -5,6 +5,7 @@
 mod allocator;
 mod bucket;
 mod budget;
+mod compact;
 mod errors;
 mod flags;
 mod key;
@@ -17,6 +18,7 @@ mod set_key;
 mod view;
 
 pub use allocator::DescriptorAllocator;
+pub use compact::CompactDescriptorSet;
 pub use errors::AllocationError;
 pub use flags::DescriptorSetLayoutCreateFlags;
 pub use gpu_descriptor_types::{

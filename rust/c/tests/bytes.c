@@ -1,5 +1,5 @@
 // The library's memory for a set, at some numbers of sets, as the C library counts it; and what is left after
-// all were freed and after gd_cleanup. For one large request it may be at most 73 bytes.
+// all were freed and after gd_cleanup. For one large request it may be at most 57 bytes.
 #include "gpu_descriptor.h"
 #include "host.h"
 #include <malloc.h>
@@ -49,8 +49,8 @@ static void measure(uint32_t count, bool is_one_request) {
         CHECK(gd_allocate(allocator, layout, is_one_request ? count : 1, &sets[at]) == GD_OK);
     uint64_t out = bytes() - before;
     CHECK(gd_free(allocator, sets, count) == GD_OK && gd_cleanup(allocator) == GD_OK);
-    // The table's 56 bytes, and 16 for the handle and the layout of a set of the largest pool.
-    CHECK(!is_one_request || out / count <= 73);
+    // The table's 40 bytes, and 16 for the handle and the layout of a set of the largest pool.
+    CHECK(!is_one_request || out / count <= 57);
     printf("%s%6u sets: %3u bytes each, %u after gd_cleanup; ", is_one_request ? "in one request " : "", count,
            (unsigned)(out / count), (unsigned)(bytes() - before));
     CHECK(gd_destroy(allocator) == GD_OK);

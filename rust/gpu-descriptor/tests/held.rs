@@ -45,10 +45,10 @@ fn bytes_of_a_set(is_one_request: bool) -> usize {
     taken / SETS
 }
 
-/// README says 56 to 112 bytes. One large request takes no more.
+/// README says 40 to 80 bytes. One large request takes no more.
 #[test]
 fn memory_of_a_held_set() {
-    assert_eq!((bytes_of_a_set(false), bytes_of_a_set(true)), (56, 56));
+    assert_eq!((bytes_of_a_set(false), bytes_of_a_set(true)), (40, 40));
 }
 
 /// Whichever of its allocations fails, a large request leaves memory for the table's slots at most.
@@ -64,7 +64,7 @@ fn memory_after_a_refused_request() {
             unsafe { it.shutdown() };
             return;
         }
-        assert!((bytes() - before) / SETS <= 56);
+        assert!((bytes() - before) / SETS <= 40);
         // SAFETY: as above.
         unsafe { it.shutdown() };
     }

@@ -3,7 +3,7 @@ ghost use Rattle.std.specs.Prelude.{◌≡◌, ◌-◌, ◌<◌, ◌≤◌, ◌�
 ghost use Rattle.std.specs.Prelude.{IfErr, IfOk, IfSome, IsErrOf, IsSome, None, OnErr, OnOk, false, true};
 ghost use Rattle.std.specs.Prelude.{IsOk, is_some, option_map};
 ghost use Rattle.std.specs.Option.{option_copied};
-ghost use Rattle.gpu_descriptor.specs.Caller.Sets.{raw_of};
+ghost use Rattle.gpu_descriptor.specs.Caller.Sets.{raw_in};
 ghost use Rattle.descriptor_table.specs.Sets.{AllFit, AreHeldOnce, LoseNames};
 ghost use Rattle.descriptor_table.specs.Slots.{is_live};
 ghost use Rattle.descriptor_manager.specs.Stores.{FreesSets, IsFreed, IsRefusedAtLast, Takes};
@@ -13,7 +13,7 @@ use super::SetManager;
 use crate::errors::{FreeError, RequestError};
 use crate::layout_registry::LayoutHandle;
 use descriptor_table::{SetHandle, SetName, Use};
-use gpu_descriptor::{AllocationError, DescriptorDevice, DescriptorSet};
+use gpu_descriptor::{AllocationError, CompactDescriptorSet, DescriptorDevice};
 
 impl<L: Drop, P: Drop, S: Drop, D: DescriptorDevice<L, P, S>> SetManager<L, P, S, D> {
     ghost use Rattle.gpu_descriptor.specs.declared.errors.AllocationError.{AllocationError};
@@ -86,7 +86,7 @@ impl<L: Drop, P: Drop, S: Drop, D: DescriptorDevice<L, P, S>> SetManager<L, P, S
     /// descriptors than the limit allows, or its own memory ran out before the allocator was asked. More
     /// than `u32::MAX` sets are `OutOfHostMemory`.
     #[inline]
-    pub fn allocate_into<N: SetName<DescriptorSet<S>> + Drop>(
+    pub fn allocate_into<N: SetName<CompactDescriptorSet<S>> + Drop>(
         &mut self,
         layout: LayoutHandle,
         sets: &mut [N],
@@ -130,7 +130,7 @@ impl<L: Drop, P: Drop, S: Drop, D: DescriptorDevice<L, P, S>> SetManager<L, P, S
     ///
     /// It fails with `NoSet` if a name isn't that of a held set (a handle that isn't its, or a name that
     /// doesn't fit it), or is in the list twice. Then nothing changes.
-    pub fn free<N: SetName<DescriptorSet<S>>>(&mut self, sets: &[N]) -> Result<(), FreeError>
+    pub fn free<N: SetName<CompactDescriptorSet<S>>>(&mut self, sets: &[N]) -> Result<(), FreeError>
         ensures frees { OnOk result (FreesSets (TurnEach (N.handles_of sets.now)
             (IsFreed (store_of self.old))) (store_of self.old) (store_of self.new)) }
         ensures names { OnOk result (LoseNames (N.handles_of sets.now) (sets_by self.old)
@@ -156,7 +156,7 @@ impl<L: Drop, P: Drop, S: Drop, D: DescriptorDevice<L, P, S>> SetManager<L, P, S
     ///
     /// It fails with `FrameAhead` if `last_use` is later than `frame()`, and else with `NoSet` as `free`
     /// does. Then nothing changes.
-    pub fn free_after<N: SetName<DescriptorSet<S>>>(
+    pub fn free_after<N: SetName<CompactDescriptorSet<S>>>(
         &mut self,
         sets: &[N],
         last_use: u64,
@@ -203,7 +203,7 @@ impl<L: Drop, P: Drop, S: Drop, D: DescriptorDevice<L, P, S>> SetManager<L, P, S
     /// The raw set of a handle, to write and to bind: a held set, or one of the open frame. `None` if
     /// the set was freed, is of another frame, or is another set manager's.
     pub fn set(&self, set: SetHandle) -> Option<&S>
-        ensures { option_copied result ≡ option_map raw_of ((sets_by self.now).set set) }
+        ensures { option_copied result ≡ option_map raw_in ((sets_by self.now).set set) }
     {
         self.store.get(set, self.frame, self.is_open)
     }

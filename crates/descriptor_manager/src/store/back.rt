@@ -5,12 +5,13 @@ ghost use Rattle.gpu_descriptor.specs.Caller.Keeps.{Keeps};
 ghost use Rattle.gpu_descriptor.specs.Caller.SetLayouts.{IsMeant};
 
 use super::Store;
-use descriptor_table::{Giving, Group, SetName};
-use gpu_descriptor::{DescriptorDevice, DescriptorSet, SetLayout};
+use crate::returning::Returning;
+use descriptor_table::{Group, SetName};
+use gpu_descriptor::{CompactDescriptorSet, DescriptorDevice, SetLayout};
 
 impl<L: Drop, P: Drop, S: Drop, D: DescriptorDevice<L, P, S>> Store<L, P, S, D> {
-    ghost use Rattle.descriptor_table.specs.Giving.{is_of};
-    ghost use Rattle.descriptor_table.specs.Sets.{AllFit, AreHeldOnce, sets_in};
+    ghost use Rattle.descriptor_table.specs.Groups.{is_of};
+    ghost use Rattle.descriptor_table.specs.Sets.{AllFit, AreHeldOnce};
     ghost use Rattle.descriptor_table.specs.Slots.{is_due, is_kept_of, slot_at};
     ghost use Rattle.descriptor_table.specs.Tables.{Becomes, MayBecome, HasLayout, TurnEach, Turns, is_kept, removed_as};
     ghost use Rattle.descriptor_table.specs.Tables.{settings_of, used_for, vacated};
@@ -20,6 +21,7 @@ impl<L: Drop, P: Drop, S: Drop, D: DescriptorDevice<L, P, S>> Store<L, P, S, D> 
     ghost use Rattle.descriptor_manager.specs.Stores.{Removes, Settles, SettlesTo};
     ghost use Rattle.descriptor_manager.specs.Stores.{kept_of, removed_in};
     ghost use Rattle.descriptor_manager.specs.Stores.{pools_besides, side_of, slots_in};
+    ghost use Rattle.descriptor_manager.specs.WholeSets.{whole_sets};
 
     /// Returns the sets of a group to their pools. In most frames none goes.
     #[inline]
@@ -45,12 +47,12 @@ impl<L: Drop, P: Drop, S: Drop, D: DescriptorDevice<L, P, S>> Store<L, P, S, D> 
         ensures stays { KeepsStore self.old self.new }
         ensures coming { self.new.coming.items ≡ self.old.coming.items }
     {
-        let mut giving = Giving {
+        let mut sets = Returning {
             table: &mut self.table,
             group,
         };
-        self.allocator.free_from(&mut self.device, &mut giving);
-        giving.end();
+        self.allocator.free_from(&mut self.device, &mut sets);
+        sets.end();
     }
 
     /// Returns all kept sets to their pools, and destroys all empty pools. Sets in use aren't kept
@@ -59,7 +61,7 @@ impl<L: Drop, P: Drop, S: Drop, D: DescriptorDevice<L, P, S>> Store<L, P, S, D> 
     pub(crate) fn cleanup(&mut self)
         requires rest { IsAtRest self.old }
         ensures cleaned { AreCleaned (slots_in self.old) (slots_in self.new) }
-        ensures emptied { length (sets_in (slots_in self.new)) ≡ 0
+        ensures emptied { length (whole_sets self.new.table) ≡ 0
             → ((side_of self.new).ledger).pools ≡ pools_besides self.old }
         ensures cleans { Cleans self.old self.new }
         ensures settles { Settles NoneComes self.old self.new }
@@ -94,7 +96,7 @@ impl<L: Drop, P: Drop, S: Drop, D: DescriptorDevice<L, P, S>> Store<L, P, S, D> 
 
     /// Frees the held sets of `names` at once: each is kept, or returns to its pool. If a name has no
     /// held set, or is in the list twice, it changes nothing and returns `false`.
-    pub(crate) fn free_each<N: SetName<DescriptorSet<S>>>(&mut self, names: &[N]) -> bool
+    pub(crate) fn free_each<N: SetName<CompactDescriptorSet<S>>>(&mut self, names: &[N]) -> bool
         requires rest { IsAtRest self.old }
         ensures once { IsTrue result ↔ (AreHeldOnce self.old.table.number (slots_in self.old)
             (N.handles_of names.now) × AllFit N.handle_of N.fit (slots_in self.old) names.now) }
@@ -113,7 +115,7 @@ impl<L: Drop, P: Drop, S: Drop, D: DescriptorDevice<L, P, S>> Store<L, P, S, D> 
 
     /// Lets the held sets of `names` wait for a frame. If a name has no held set, or is in the list
     /// twice, it changes nothing and returns `false`.
-    pub(crate) fn wait_each<N: SetName<DescriptorSet<S>>>(
+    pub(crate) fn wait_each<N: SetName<CompactDescriptorSet<S>>>(
         &mut self,
         names: &[N],
         frame: u64,

@@ -4,7 +4,7 @@ ghost use Rattle.gpu_descriptor.specs.Caller.SetLayouts.{IsMeant};
 
 use super::Store;
 use descriptor_table::{SetHandle, SetName, Use};
-use gpu_descriptor::{AllocationError, DescriptorDevice, DescriptorSet, SetLayout};
+use gpu_descriptor::{AllocationError, CompactDescriptorSet, DescriptorDevice, SetLayout};
 
 impl<L: Drop, P: Drop, S: Drop, D: DescriptorDevice<L, P, S>> Store<L, P, S, D> {
     ghost use Rattle.descriptor_table.specs.Sets.{AllFit};
@@ -127,7 +127,7 @@ impl<L: Drop, P: Drop, S: Drop, D: DescriptorDevice<L, P, S>> Store<L, P, S, D> 
     /// Takes a set of a layout for each place of `names`, kept ones first, and writes their names. The
     /// sets are held. On an error none is taken.
     #[inline]
-    pub(crate) fn allocate_each<N: SetName<DescriptorSet<S>> + Drop>(
+    pub(crate) fn allocate_each<N: SetName<CompactDescriptorSet<S>> + Drop>(
         &mut self,
         known: &SetLayout<L>,
         layout: u32,
@@ -151,7 +151,7 @@ impl<L: Drop, P: Drop, S: Drop, D: DescriptorDevice<L, P, S>> Store<L, P, S, D> 
     /// Holds sets of a layout, more than are kept. It is out of line, so that a call that finds
     /// enough saves no registers for it.
     #[inline(never)]
-    fn allocate_with_new<N: SetName<DescriptorSet<S>> + Drop>(
+    fn allocate_with_new<N: SetName<CompactDescriptorSet<S>> + Drop>(
         &mut self,
         known: &SetLayout<L>,
         layout: u32,

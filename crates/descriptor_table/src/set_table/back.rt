@@ -3,14 +3,15 @@
 ghost use Rattle.std.specs.Prelude.{◌≡◌, ◌≢◌, ◌↔◌, ◌+◌, ◌<◌, ◌≤◌, ◌&&◌, ℕ, true, false, IsFalse, IfSome, IsTrue, is_some, length, min, slice_set, take, List, if◌then◌else◌};
 
 use super::SetTable;
-use crate::giving::Group;
+use crate::group::Group;
 use crate::handle::SetName;
 use crate::slot::Use;
 
 impl<T> SetTable<T> {
     ghost use Rattle.descriptor_table.specs.Lists.{HasList};
     ghost use Rattle.descriptor_table.specs.Sets.{AllFit, AreHeldOnce, is_held};
-    ghost use Rattle.descriptor_table.specs.Slots.{IsNowhere, Slot, count, is_due, is_in, is_kept_of, slot_at, waits};
+    ghost use Rattle.descriptor_table.specs.Slots.{IsNowhere, Slot, is_due, is_in, is_kept_of, slot_at, waits};
+    ghost use Rattle.descriptor_table.specs.Places.{count};
     ghost use Rattle.descriptor_table.specs.Tables.{At, Becomes, Changes, HasTaken};
     ghost use Rattle.descriptor_table.specs.Tables.{IsBack, MayBecome};
     ghost use Rattle.descriptor_table.specs.Tables.{Stays, TurnEach, Turns};
@@ -29,7 +30,7 @@ impl<T> SetTable<T> {
         let slot = self.slots.at(place);
         let layout = slot.list() as usize;
         let list = self.lists.kept.get(layout)?;
-        let may = slot.generation < u32::MAX && list.count < self.keep;
+        let may = list.count < self.max_kept() && slot.generation < u32::MAX;
         may.then_some(layout)
     }
 

@@ -2,10 +2,11 @@
 ghost use Rattle.std.specs.Prelude.{◌≡◌, ◌≤◌, ℕ, length};
 
 use super::SetTable;
-use crate::giving::Group;
+use crate::group::Group;
 
 impl<T> SetTable<T> {
-    ghost use Rattle.descriptor_table.specs.Slots.{count, is_kept_of, waits};
+    ghost use Rattle.descriptor_table.specs.Slots.{is_kept_of, waits};
+    ghost use Rattle.descriptor_table.specs.Places.{count};
     ghost use Rattle.descriptor_table.specs.Tables.{OnlySettings, is_kept};
     ghost use Rattle.descriptor_table.specs.Tables.{settings_of, slots_of};
 
@@ -16,6 +17,14 @@ impl<T> SetTable<T> {
         ensures { OnlySettings (record (settings_of self.old) { keep = max }) self.old self.new }
     {
         self.keep = max;
+    }
+
+    /// How many sets of a layout are kept at most.
+    #[inline]
+    pub(super) fn max_kept(&self) -> u32
+        ensures { result ≡ self.now.keep }
+    {
+        self.keep
     }
 
     /// How many sets are kept. It visits the layouts.

@@ -3,14 +3,15 @@ ghost use Rattle.std.specs.Prelude.{◌≡◌, ◌==◌, ◌+◌, ◌<◌, ◌�
 
 use super::queue::enqueue;
 use super::{GROUPS, SetTable};
-use crate::giving::Group;
+use crate::group::Group;
 use crate::handle::{SetHandle, SetName};
 use crate::slot::Use;
 
 impl<T> SetTable<T> {
-    ghost use Rattle.descriptor_table.specs.Giving.{is_of, list_of};
+    ghost use Rattle.descriptor_table.specs.Groups.{is_of, list_of};
     ghost use Rattle.descriptor_table.specs.Lists.{HasList};
-    ghost use Rattle.descriptor_table.specs.Slots.{IsNowhere, chain_at, count, frame_at, frame_of, goes, is_kept_of, is_live, last_up_to, nexts_in, places_in, slot_at, waits_for};
+    ghost use Rattle.descriptor_table.specs.Slots.{IsNowhere, chain_at, frame_at, frame_of, goes, is_kept_of, is_live, last_up_to, nexts_in, places_in, slot_at, waits_for};
+    ghost use Rattle.descriptor_table.specs.Places.{count};
     ghost use Rattle.descriptor_table.specs.Tables.{At, Changes, HasLayout, PicksAny, Renews, Stays};
     ghost use Rattle.descriptor_table.specs.Tables.{removed_of, slots_of, used_for};
 

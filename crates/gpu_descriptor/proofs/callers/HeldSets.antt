@@ -1,6 +1,8 @@
 -- Which sets of a list are outstanding after a call: for callers that hold sets.
-use Rattle.gpu_descriptor.proofs.Common.{◌≡◌, ℕ, ◌+◌, List, ◌++◌, sym, ap, ◌∙◌, arith, map-append, count_by-append, DescriptorSet, State, Item, item_eq, Agree, AreOutstanding, count_of, outstanding, AreOutBesides, released, item_of, items_of}
+use Rattle.gpu_descriptor.proofs.Common.{◌≡◌, ℕ, ◌+◌, ◌<◌, List, ◌++◌, slice_get, Some, option_map, sym, ap, ◌∙◌, arith, ltb-true, map-append, slice_get-map, count_by, count_by-append, list_any-count_by, DescriptorSet, State, Item, item_eq, Agree, AreOutstanding, count_of, outstanding, AreOutBesides, released, item_of, items_of}
+use Rattle.gpu_descriptor.proofs.lists.AtPlaces.{any_here}
 use Rattle.gpu_descriptor.proofs.release.ReleaseAgrees.{takes}
+use Rattle.gpu_descriptor.proofs.table.Exact.{item_exact}
 
 -- ---- lists of items
 
@@ -26,3 +28,9 @@ module _ {S : Type 0} (name : S → ℕ) where
 
   pub out_back : (xs ys all : List (DescriptorSet S)) (s : State) → all ≡ xs ++ ys → AreOutstanding (items_of name all) s → AreOutstanding (items_of name ys) s
   out_back xs ys all s is out u = (let a = ap (λ (l : List (DescriptorSet S)). count_of u (items_of name l)) is ∙ count_parts xs ys u in let b = out u in omega arith)
+
+  -- a set of the list counts there
+  pub counted : (x : DescriptorSet S) (l : List (DescriptorSet S)) (i : ℕ) → slice_get l i ≡ Some x → 0 < count_of (item_of name x) (items_of name l)
+  counted x l i at =
+      let is_it = λ (t : Item). item_eq t (item_of name x) in
+      ltb-true 0 (count_by is_it (items_of name l)) (sym (list_any-count_by is_it (items_of name l)) ∙ any_here is_it (items_of name l) i (item_of name x) (slice_get-map (item_of name) l i ∙ ap (option_map (item_of name)) at) (item_exact.self (item_of name x)))

@@ -1,8 +1,11 @@
 //! Readers of the allocator. They allocate no memory.
-ghost use Rattle.std.specs.Prelude.{◌≡◌, ◌≤◌, length};
+ghost use Rattle.std.specs.Prelude.{◌≡◌, ◌+◌, ◌<◌, ◌≤◌, ◌^◌, ℕ, length};
 ghost use Rattle.gpu_descriptor_types.specs.Counts.{kinds};
+ghost use Rattle.gpu_descriptor_types.specs.Ledger.{Ledger};
+ghost use Rattle.gpu_descriptor.specs.Model.Agreement.{Item, outstanding};
 ghost use Rattle.gpu_descriptor.specs.Model.Books.{books_of};
 ghost use Rattle.gpu_descriptor.specs.Caller.States.{marked_load_of, outstanding_of, pool_load_of};
+ghost use Rattle.gpu_descriptor.specs.Caller.States.{state_of};
 ghost use Rattle.gpu_descriptor.specs.Caller.Views.{view_in};
 
 use super::DescriptorAllocator;
@@ -14,6 +17,10 @@ impl<P, S> DescriptorAllocator<P, S> {
     /// How many sets are live.
     pub fn outstanding(&self) -> u64
         ensures total { result ≡ outstanding_of self.now }
+
+        // The number of the key's next pool has 64 bits.
+        ensures numbers { (name : P → ℕ) (l : Ledger) (t : Item) → 0 < outstanding
+            (state_of name self.now l) t → t.number + 1 < 2 ^ 64 }
     {
         self.outstanding
     }

@@ -4,7 +4,7 @@
 use crate::abi::GdSet;
 use crate::descriptor_manager::{LayoutHandle, SetHandle};
 use crate::descriptor_table::SetName;
-use crate::gpu_descriptor::DescriptorSet;
+use crate::gpu_descriptor::CompactDescriptorSet;
 use core::mem::MaybeUninit;
 
 /// The name of a layout in C: 64 bits, which no other layout of the allocator gets. It is never 0.
@@ -27,14 +27,14 @@ pub fn layout_of(owner: u64, name: u64) -> LayoutHandle {
 /// The driver's handle of a set that is there.
 #[inline]
 #[allow(unsafe_code)]
-fn raw_of(set: Option<&DescriptorSet<u64>>) -> u64 {
+fn raw_of(set: Option<&CompactDescriptorSet<u64>>) -> u64 {
     // SAFETY: the table asks only about sets that are there, which is proved of each call (`SetName`).
     *unsafe { set.unwrap_unchecked() }.raw()
 }
 
 /// A changed `gd_set` is refused: it is another allocator's, or not the last handle of its place, or has not the
 /// driver's handle of the set there.
-impl SetName<DescriptorSet<u64>> for GdSet {
+impl SetName<CompactDescriptorSet<u64>> for GdSet {
     #[inline]
     fn handle(&self) -> SetHandle {
         SetHandle {
@@ -45,7 +45,7 @@ impl SetName<DescriptorSet<u64>> for GdSet {
     }
 
     #[inline]
-    fn of(handle: SetHandle, set: Option<&DescriptorSet<u64>>) -> Self {
+    fn of(handle: SetHandle, set: Option<&CompactDescriptorSet<u64>>) -> Self {
         GdSet {
             handle: raw_of(set),
             place: handle.place,
@@ -55,23 +55,23 @@ impl SetName<DescriptorSet<u64>> for GdSet {
     }
 
     #[inline]
-    fn fits(&self, set: Option<&DescriptorSet<u64>>) -> bool {
+    fn fits(&self, set: Option<&CompactDescriptorSet<u64>>) -> bool {
         self.handle == raw_of(set)
     }
 }
 
 /// The host's memory for a set, which the host may never have written: it is only written here.
-impl SetName<DescriptorSet<u64>> for MaybeUninit<GdSet> {
+impl SetName<CompactDescriptorSet<u64>> for MaybeUninit<GdSet> {
     fn handle(&self) -> SetHandle {
         unreachable!("a set is created before its memory is read")
     }
 
     #[inline]
-    fn of(handle: SetHandle, set: Option<&DescriptorSet<u64>>) -> Self {
+    fn of(handle: SetHandle, set: Option<&CompactDescriptorSet<u64>>) -> Self {
         MaybeUninit::new(GdSet::of(handle, set))
     }
 
-    fn fits(&self, _: Option<&DescriptorSet<u64>>) -> bool {
+    fn fits(&self, _: Option<&CompactDescriptorSet<u64>>) -> bool {
         unreachable!("a set is created before its memory is read")
     }
 }

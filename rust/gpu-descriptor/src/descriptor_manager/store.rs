@@ -7,7 +7,7 @@ mod request;
 
 use crate::descriptor_table::{SetHandle, SetTable};
 use crate::gpu_descriptor::{
-    AllocationError, DescriptorAllocator, DescriptorDevice, DescriptorSet,
+    AllocationError, CompactDescriptorSet, DescriptorAllocator, DescriptorDevice, DescriptorSet,
     DescriptorSetLayoutCreateFlags, SetLayout,
 };
 use crate::kit::alloc::{AllocError, Global};
@@ -20,7 +20,7 @@ const MAX_POOL_DESCRIPTORS: u64 = 65_536;
 /// The sets of a set manager, an allocator and a device. Each set of the allocator is in the table.
 pub(crate) struct Store<L, P, S, D: DescriptorDevice<L, P, S>> {
     allocator: DescriptorAllocator<P, S>,
-    table: SetTable<DescriptorSet<S>>,
+    table: SetTable<CompactDescriptorSet<S>>,
 
     /// The new sets of a request, until the call puts them into the table. The vector stays here, as
     /// otherwise each `allocate_into` would allocate one.

@@ -2,7 +2,7 @@
 //! The table of a set manager's descriptor sets. Each set has a slot, and stays there while it is
 //! reused.
 
-mod giving;
+mod group;
 mod handle;
 mod handle_table;
 mod lists;
@@ -11,7 +11,7 @@ mod slot;
 mod slot_list;
 mod users;
 
-pub use giving::{Giving, Group};
+pub use group::Group;
 pub use handle::{SetHandle, SetName, place_of};
 pub use handle_table::HandleTable;
 pub use set_table::SetTable;

@@ -235,6 +235,14 @@ impl<T> SlotList<T> {
         entry.set.take()
     }
 
+    /// Adds a slot without a set, in reserved memory.
+    pub(crate) fn push(&mut self)
+    {
+        self.entries.push_reserved(Entry::new());
+    }
+}
+
+impl<T> SlotList<T> {
     /// Puts a set into a slot that has none, and to a use. `generation` is the slot's next one.
     #[inline]
     pub(crate) fn fill(
@@ -251,16 +259,7 @@ impl<T> SlotList<T> {
         entry.generation = generation;
         entry.list = layout;
         entry.group = group;
-        match entry.set.replace(set) {
-            None => {}
-            Some(_) => unreachable!(),
-        }
+        entry.set = Some(set);
         entry.set_use(used);
-    }
-
-    /// Adds a slot without a set, in reserved memory.
-    pub(crate) fn push(&mut self)
-    {
-        self.entries.push_reserved(Entry::new());
     }
 }

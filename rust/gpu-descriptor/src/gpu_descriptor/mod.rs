@@ -5,6 +5,7 @@
 mod allocator;
 mod bucket;
 mod budget;
+mod compact;
 mod errors;
 mod flags;
 mod key;
@@ -15,6 +16,7 @@ mod set;
 mod view;
 
 pub use allocator::DescriptorAllocator;
+pub use compact::CompactDescriptorSet;
 pub use errors::AllocationError;
 pub use flags::DescriptorSetLayoutCreateFlags;
 pub use crate::gpu_descriptor_types::{DescriptorDevice, DescriptorTotalCount};

@@ -10,7 +10,7 @@ pub mod collections;
 pub mod indexmap;
 pub mod vec;
 
-pub use core::{error, fmt, hash, mem, ops};
+pub use core::{error, fmt, hash, mem, num, ops};
 
 pub mod marker {
     pub use core::marker::PhantomData;

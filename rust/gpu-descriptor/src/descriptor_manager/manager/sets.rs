@@ -5,7 +5,7 @@ use super::SetManager;
 use crate::descriptor_manager::errors::{FreeError, RequestError};
 use crate::descriptor_manager::layout_registry::LayoutHandle;
 use crate::descriptor_table::{SetHandle, SetName, Use};
-use crate::gpu_descriptor::{AllocationError, DescriptorDevice, DescriptorSet};
+use crate::gpu_descriptor::{AllocationError, CompactDescriptorSet, DescriptorDevice};
 
 impl<L, P, S, D: DescriptorDevice<L, P, S>> SetManager<L, P, S, D> {
     /// Allocates a set of a layout for a use in which its handle is valid now.
@@ -44,7 +44,7 @@ impl<L, P, S, D: DescriptorDevice<L, P, S>> SetManager<L, P, S, D> {
     /// descriptors than the limit allows, or its own memory ran out before the allocator was asked. More
     /// than `u32::MAX` sets are `OutOfHostMemory`.
     #[inline]
-    pub fn allocate_into<N: SetName<DescriptorSet<S>>>(
+    pub fn allocate_into<N: SetName<CompactDescriptorSet<S>>>(
         &mut self,
         layout: LayoutHandle,
         sets: &mut [N],
@@ -69,7 +69,7 @@ impl<L, P, S, D: DescriptorDevice<L, P, S>> SetManager<L, P, S, D> {
     ///
     /// It fails with `NoSet` if a name isn't that of a held set (a handle that isn't its, or a name that
     /// doesn't fit it), or is in the list twice. Then nothing changes.
-    pub fn free<N: SetName<DescriptorSet<S>>>(&mut self, sets: &[N]) -> Result<(), FreeError>
+    pub fn free<N: SetName<CompactDescriptorSet<S>>>(&mut self, sets: &[N]) -> Result<(), FreeError>
     {
         if !self.store.free_each(sets) {
             return Err(FreeError::NoSet);
@@ -83,7 +83,7 @@ impl<L, P, S, D: DescriptorDevice<L, P, S>> SetManager<L, P, S, D> {
     ///
     /// It fails with `FrameAhead` if `last_use` is later than `frame()`, and else with `NoSet` as `free`
     /// does. Then nothing changes.
-    pub fn free_after<N: SetName<DescriptorSet<S>>>(
+    pub fn free_after<N: SetName<CompactDescriptorSet<S>>>(
         &mut self,
         sets: &[N],
         last_use: u64,

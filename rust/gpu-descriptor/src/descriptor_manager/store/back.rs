@@ -2,8 +2,9 @@
 //! Sets that are freed: each is kept, or returns to its pool.
 
 use super::Store;
-use crate::descriptor_table::{Giving, Group, SetName};
-use crate::gpu_descriptor::{DescriptorDevice, DescriptorSet, SetLayout};
+use crate::descriptor_manager::returning::Returning;
+use crate::descriptor_table::{Group, SetName};
+use crate::gpu_descriptor::{CompactDescriptorSet, DescriptorDevice, SetLayout};
 
 impl<L, P, S, D: DescriptorDevice<L, P, S>> Store<L, P, S, D> {
     /// Returns the sets of a group to their pools. In most frames none goes.
@@ -19,12 +20,12 @@ impl<L, P, S, D: DescriptorDevice<L, P, S>> Store<L, P, S, D> {
     /// Returns the sets of a group to their pools, run by run.
     fn give_each(&mut self, group: Group)
     {
-        let mut giving = Giving {
+        let mut sets = Returning {
             table: &mut self.table,
             group,
         };
-        self.allocator.free_from(&mut self.device, &mut giving);
-        giving.end();
+        self.allocator.free_from(&mut self.device, &mut sets);
+        sets.end();
     }
 
     /// Returns all kept sets to their pools, and destroys all empty pools. Sets in use aren't kept
@@ -53,7 +54,7 @@ impl<L, P, S, D: DescriptorDevice<L, P, S>> Store<L, P, S, D> {
 
     /// Frees the held sets of `names` at once: each is kept, or returns to its pool. If a name has no
     /// held set, or is in the list twice, it changes nothing and returns `false`.
-    pub(crate) fn free_each<N: SetName<DescriptorSet<S>>>(&mut self, names: &[N]) -> bool
+    pub(crate) fn free_each<N: SetName<CompactDescriptorSet<S>>>(&mut self, names: &[N]) -> bool
     {
         if !self.table.settle_held(names) {
             return false;
@@ -64,7 +65,7 @@ impl<L, P, S, D: DescriptorDevice<L, P, S>> Store<L, P, S, D> {
 
     /// Lets the held sets of `names` wait for a frame. If a name has no held set, or is in the list
     /// twice, it changes nothing and returns `false`.
-    pub(crate) fn wait_each<N: SetName<DescriptorSet<S>>>(
+    pub(crate) fn wait_each<N: SetName<CompactDescriptorSet<S>>>(
         &mut self,
         names: &[N],
         frame: u64,

@@ -3,7 +3,7 @@
 
 use super::Store;
 use crate::descriptor_table::{SetName, Use};
-use crate::gpu_descriptor::{DescriptorDevice, DescriptorSet};
+use crate::gpu_descriptor::{CompactDescriptorSet, DescriptorDevice};
 
 /// For how many new sets a store keeps memory.
 const MAX_COMING: usize = 1024;
@@ -11,14 +11,18 @@ const MAX_COMING: usize = 1024;
 impl<L, P, S, D: DescriptorDevice<L, P, S>> Store<L, P, S, D> {
     /// Puts a kept set of a layout to a use, and returns its name.
     #[inline]
-    pub(super) fn hold_next<N: SetName<DescriptorSet<S>>>(&mut self, layout: u32, used: Use) -> N
+    pub(super) fn hold_next<N: SetName<CompactDescriptorSet<S>>>(
+        &mut self,
+        layout: u32,
+        used: Use,
+    ) -> N
     {
         self.table.hold_kept(layout, used)
     }
 
     /// Puts kept sets of a layout to a use, and writes their names.
     #[inline]
-    pub(super) fn hold_kept<N: SetName<DescriptorSet<S>>>(
+    pub(super) fn hold_kept<N: SetName<CompactDescriptorSet<S>>>(
         &mut self,
         layout: u32,
         used: Use,
@@ -32,19 +36,24 @@ impl<L, P, S, D: DescriptorDevice<L, P, S>> Store<L, P, S, D> {
 
     /// Puts one of the new sets in `coming` to a use, and returns its name.
     #[inline(always)]
-    pub(super) fn hold_last<N: SetName<DescriptorSet<S>>>(&mut self, layout: u32, used: Use) -> N
+    pub(super) fn hold_last<N: SetName<CompactDescriptorSet<S>>>(
+        &mut self,
+        layout: u32,
+        used: Use,
+    ) -> N
     {
         match self.coming.pop() {
             Some(set) => {
-                let group = (set.key_id() % 256) as u8;
-                self.table.put(layout, group, set, used)
+                let (id, set) = CompactDescriptorSet::of(set);
+                self.table.put(layout, id, set, used)
             }
             None => unreachable!(),
         }
     }
 
-    /// Puts the new sets in `coming` to a use, and writes their names. Of its memory it keeps that for 1024 sets.
-    pub(super) fn hold_coming<N: SetName<DescriptorSet<S>>>(
+    /// Puts the new sets in `coming` to a use, and writes their names. It keeps memory for at most 1024 new
+    /// sets.
+    pub(super) fn hold_coming<N: SetName<CompactDescriptorSet<S>>>(
         &mut self,
         layout: u32,
         used: Use,

@@ -3,7 +3,7 @@
 
 use super::Store;
 use crate::descriptor_table::{SetHandle, SetName, Use};
-use crate::gpu_descriptor::{AllocationError, DescriptorDevice, DescriptorSet, SetLayout};
+use crate::gpu_descriptor::{AllocationError, CompactDescriptorSet, DescriptorDevice, SetLayout};
 
 impl<L, P, S, D: DescriptorDevice<L, P, S>> Store<L, P, S, D> {
     /// Asks the allocator for `many` sets of a layout. The table has room for them. If they are refused, the
@@ -80,7 +80,7 @@ impl<L, P, S, D: DescriptorDevice<L, P, S>> Store<L, P, S, D> {
     /// Takes a set of a layout for each place of `names`, kept ones first, and writes their names. The
     /// sets are held. On an error none is taken.
     #[inline]
-    pub(crate) fn allocate_each<N: SetName<DescriptorSet<S>>>(
+    pub(crate) fn allocate_each<N: SetName<CompactDescriptorSet<S>>>(
         &mut self,
         known: &SetLayout<L>,
         layout: u32,
@@ -97,7 +97,7 @@ impl<L, P, S, D: DescriptorDevice<L, P, S>> Store<L, P, S, D> {
     /// Holds sets of a layout, more than are kept. It is out of line, so that a call that finds
     /// enough saves no registers for it.
     #[inline(never)]
-    fn allocate_with_new<N: SetName<DescriptorSet<S>>>(
+    fn allocate_with_new<N: SetName<CompactDescriptorSet<S>>>(
         &mut self,
         known: &SetLayout<L>,
         layout: u32,

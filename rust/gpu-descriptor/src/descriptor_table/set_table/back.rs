@@ -3,7 +3,7 @@
 //! their pools.
 
 use super::SetTable;
-use crate::descriptor_table::giving::Group;
+use crate::descriptor_table::group::Group;
 use crate::descriptor_table::handle::SetName;
 use crate::descriptor_table::slot::Use;
 
@@ -15,7 +15,7 @@ impl<T> SetTable<T> {
         let slot = self.slots.at(place);
         let layout = slot.list() as usize;
         let list = self.lists.kept.get(layout)?;
-        let may = slot.generation < u32::MAX && list.count < self.keep;
+        let may = list.count < self.max_kept() && slot.generation < u32::MAX;
         may.then_some(layout)
     }
 

@@ -2,7 +2,7 @@
 //! How many slots there are, how many sets are in each use, and how many of a layout are kept at most.
 
 use super::SetTable;
-use crate::descriptor_table::giving::Group;
+use crate::descriptor_table::group::Group;
 
 impl<T> SetTable<T> {
     /// Sets how many sets of a layout are kept at most. When it is called, no more than `max` of any
@@ -10,6 +10,13 @@ impl<T> SetTable<T> {
     pub fn set_max_kept(&mut self, max: u32)
     {
         self.keep = max;
+    }
+
+    /// How many sets of a layout are kept at most.
+    #[inline]
+    pub(super) fn max_kept(&self) -> u32
+    {
+        self.keep
     }
 
     /// How many sets are kept. It visits the layouts.

@@ -3,7 +3,7 @@
 
 use super::queue::enqueue;
 use super::{GROUPS, SetTable};
-use crate::descriptor_table::giving::Group;
+use crate::descriptor_table::group::Group;
 use crate::descriptor_table::handle::{SetHandle, SetName};
 use crate::descriptor_table::slot::Use;
 

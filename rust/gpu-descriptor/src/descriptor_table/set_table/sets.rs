@@ -3,22 +3,11 @@
 
 use super::SetTable;
 use super::queue::enqueue;
-use crate::descriptor_table::giving::Group;
+use crate::descriptor_table::group::Group;
 use crate::descriptor_table::handle::{SetHandle, SetName};
 use crate::descriptor_table::slot::Use;
 
 impl<T> SetTable<T> {
-    /// Puts a set into a slot, in reserved memory, and to a use, and returns its name. In the list of those
-    /// that go, sets of one group come next to each other.
-    #[inline(always)]
-    pub fn put<N: SetName<T>>(&mut self, layout: u32, group: u8, set: T, used: Use) -> N
-    {
-        if self.lists.vacant.count == 0 {
-            self.add_place();
-        }
-        self.fill(layout, group, set, used)
-    }
-
     /// Adds a slot without a set, in reserved memory. It is out of line, so that a set that gets a slot that is
     /// there saves no registers for it.
     #[inline(never)]
@@ -37,9 +26,56 @@ impl<T> SetTable<T> {
         self.lists.vacant.push(place as u32);
     }
 
+    /// Takes the set out of a slot that had its last generation, with its id, so the slot is never used again.
+    #[cold]
+    fn retire(&mut self, place: usize) -> Option<(u64, T)>
+    {
+        let slot = self.slots.at(place);
+        let next = slot.next;
+        let id = self.users.leave(slot.layout() as usize);
+        let set = self.slots.vacate(place, next)?;
+        Some((id, set))
+    }
+
+    /// Takes the set out of a slot that a call has taken, with its id, and leaves the slot vacant. The slot is
+    /// reused, unless it had its last generation.
+    #[inline]
+    fn take_out(&mut self, place: usize) -> Option<(u64, T)>
+    {
+        let slot = self.slots.at(place);
+        if slot.generation == u32::MAX {
+            return self.retire(place);
+        }
+        let id = self.users.leave(slot.layout() as usize);
+        let set = self.slots.vacate(place, self.lists.vacant.first);
+        self.lists.vacant.push(place as u32);
+        Some((id, set?))
+    }
+
+    /// Takes a set of a group out of its list, and out of its slot, with the id of its layout's sets.
+    #[inline]
+    pub fn take_of(&mut self, group: Group) -> Option<(u64, T)>
+    {
+        let place = self.pick(group)?;
+        self.take_out(place)
+    }
+}
+
+impl<T> SetTable<T> {
+    /// Puts a set into a slot, in reserved memory, and to a use, and returns its name. `take_of` gives this id
+    /// with all sets of the layout. In the list of those that go, sets of one id come next to each other.
+    #[inline(always)]
+    pub fn put<N: SetName<T>>(&mut self, layout: u32, id: u64, set: T, used: Use) -> N
+    {
+        if self.lists.vacant.count == 0 {
+            self.add_place();
+        }
+        self.fill(layout, id, set, used)
+    }
+
     /// Puts a set into a slot that has none, and to a use, and returns its name.
     #[inline(always)]
-    fn fill<N: SetName<T>>(&mut self, layout: u32, group: u8, set: T, used: Use) -> N
+    fn fill<N: SetName<T>>(&mut self, layout: u32, id: u64, set: T, used: Use) -> N
     {
         let near = self.place_for(used);
         let place = self.lists.vacant.first;
@@ -51,42 +87,10 @@ impl<T> SetTable<T> {
         };
         self.lists.vacant.pop(slot.next);
         let name = N::of(handle, Some(&set));
+        let group = (id % 256) as u8;
         self.slots.fill(place as usize, handle.generation, layout, group, set, used);
-        self.users.join(layout as usize);
+        self.users.join(layout as usize, id);
         enqueue(&mut self.slots, &mut self.waiting, near, place, used);
         name
-    }
-
-    /// Takes the set out of a slot that had its last generation, so the slot is never used again.
-    #[cold]
-    fn retire(&mut self, place: usize) -> Option<T>
-    {
-        let slot = self.slots.at(place);
-        let next = slot.next;
-        self.users.leave(slot.layout() as usize);
-        self.slots.vacate(place, next)
-    }
-
-    /// Takes the set out of a slot that a call has taken, and leaves the slot vacant. The slot is reused,
-    /// unless it had its last generation.
-    #[inline]
-    fn take_out(&mut self, place: usize) -> Option<T>
-    {
-        let slot = self.slots.at(place);
-        if slot.generation == u32::MAX {
-            return self.retire(place);
-        }
-        self.users.leave(slot.layout() as usize);
-        let set = self.slots.vacate(place, self.lists.vacant.first);
-        self.lists.vacant.push(place as u32);
-        set
-    }
-
-    /// Takes a set of a group out of its list, and out of its slot.
-    #[inline]
-    pub(crate) fn take_of(&mut self, group: Group) -> Option<T>
-    {
-        let place = self.pick(group)?;
-        self.take_out(place)
     }
 }

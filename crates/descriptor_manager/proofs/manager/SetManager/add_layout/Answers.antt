@@ -6,6 +6,7 @@ use Rattle.descriptor_manager.proofs.Owned.{gone, layout_used, number_left, seen
 use Rattle.descriptor_manager.proofs.manager.SetManager.add_layout.Goals.{in-Some+else-is_usable, in_default}
 use Rattle.descriptor_manager.proofs.manager.SetManager.add_layout.Goals as goal
 
+-- the number of a removed layout has another one
 pub invariant_of-self-clause-sets : goal.invariant_of-self-clause-sets
 invariant_of-self-clause-sets g c =
     let used = layout_used c.renew.new.self c.renew.result c.args.layout c.in-Some.number (sym c.renew.ensures.place) c.renew.ensures.added in
@@ -17,6 +18,7 @@ returns-then-is_usable-clause-given g c = c.renew.ensures.names.given 0 c.renew.
 pub returns-then-is_usable-clause-never : goal.returns-then-is_usable-clause-never
 returns-then-is_usable-clause-never g c = c.renew.ensures.names.never 0 c.renew.result.slot (omega arith)
 
+-- a number whose last handle was given is lost
 pub invariant_of-self-else-is_usable-clause-sets : goal.invariant_of-self-else-is_usable-clause-sets
 invariant_of-self-else-is_usable-clause-sets g c = sets_renewed c.args.self.now.store c.renew_layout.new.self c.in-Some.number c.in-Some.ensures.contents c.in-Some.ensures.renews (λ n ne. refl) (sym c.is_usable.ensures.usable ∙ c.if-is_usable.false) refl c.args.self.now.sets
 

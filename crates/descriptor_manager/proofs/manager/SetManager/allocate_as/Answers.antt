@@ -1,7 +1,10 @@
 use Rattle.descriptor_manager.proofs.Common.{◌≡◌, refl, subst, sym, rules, IsRefusedAtLast, handles_in}
 use Rattle.descriptor_manager.proofs.Owned.{if_some, refused_names}
-use Rattle.descriptor_manager.proofs.Requests.{come_then, one_refused, sets_then}
+use Rattle.descriptor_manager.proofs.Requests.{come_then, can_take, one_refused, sets_then}
 use Rattle.descriptor_manager.proofs.manager.SetManager.allocate_as.Goals as goal
+
+pub allocate-requires-clause-can : goal.allocate-requires-clause-can
+allocate-requires-clause-can g c = can_take c.args.self.now c.args.layout _ _ c.place.ensures (sym c.in-Some.ensures.layout) (search rules)
 
 pub invariant_of-self-2-clause-sets : goal.invariant_of-self-2-clause-sets
 invariant_of-self-2-clause-sets g c = sets_then c.args.self.now c.args.layout c.in-Some.known.now c.place.result c.place.ensures (sym c.in-Some.ensures.layout) 1 c.args.used (handles_in c.allocate.result) c.allocate.new.self c.allocate.result c.allocate.ensures

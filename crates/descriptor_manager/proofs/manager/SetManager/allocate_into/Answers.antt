@@ -1,7 +1,10 @@
-use Rattle.descriptor_manager.proofs.Common.{common_steps, length, refl, inl, sym, arith, Held, count_few}
+use Rattle.descriptor_manager.proofs.Common.{common_steps, length, refl, inl, sym, arith, Held, count_few, rules}
 use Rattle.descriptor_manager.proofs.Owned.{refused_names}
-use Rattle.descriptor_manager.proofs.Requests.{come_then, sets_then}
+use Rattle.descriptor_manager.proofs.Requests.{come_then, can_take, sets_then}
 use Rattle.descriptor_manager.proofs.manager.SetManager.allocate_into.Goals as goal
+
+pub allocate_each-requires-clause-can : goal.allocate_each-requires-clause-can
+allocate_each-requires-clause-can g c = can_take c.args.self.now c.args.layout _ _ c.place.ensures (sym c.in-Some.ensures.layout) (search rules)
 
 pub invariant_of-self-2-clause-sets : goal.invariant_of-self-2-clause-sets
 invariant_of-self-2-clause-sets g c = sets_then c.args.self.now c.args.layout c.in-Some.known.now c.place.result c.place.ensures (sym c.in-Some.ensures.layout) (length c.args.sets.now) Held (g.N.SetName.handles_of c.allocate_each.new.names) c.allocate_each.new.self c.allocate_each.result c.allocate_each.ensures.requests

@@ -8,7 +8,7 @@ invariant_of-result-clause-sets g c =
     let store = c.new.ensures in
     record {
       rest = store.rest;
-      own = λ p x known full here. absurd (let e = sym (ap (λ l. (slot_at l p).set) store.slots) ∙ full in cc);
+      own = λ n known at p x full is. absurd (let e = sym (ap (λ l. (slot_at l p).set) store.slots) ∙ full in cc);
       there = λ n some. ap (λ (s : Settings). s.removed n) store.settings;
       free = λ n usable. absurd (true≢false (sym usable ∙ ap (λ l. is_usable (slot_at l n)) none));
       numbers = ap (λ (s : Settings). s.layouts) store.settings ∙ ap length (sym none);

@@ -1,6 +1,6 @@
-use Rattle.descriptor_manager.proofs.Common.{◌≡◌, ℕ, ◌<◌, ◌++◌, ◌∙◌, true, length, refl, sym, ap, subst, arith, rules, get_or_append_left, length-append, AreOfLayout, passed, is_kept_of, slot_at, place_at, SetHandle, Held, handles_both, handles_long, ComesOf, HoldEach, NoneComes, kept_of, slots_in}
-use Rattle.descriptor_manager.proofs.Requests.{Brings, brought, from_asked, from_refused}
-use Rattle.descriptor_manager.proofs.Joining.{held_stays, holds_after, joined, layout_stays, stays_then, fit_both}
+use Rattle.descriptor_manager.proofs.Common.{◌≡◌, ℕ, ◌<◌, ◌++◌, ◌∙◌, true, length, refl, sym, ap, subst, arith, rules, get_or_append_left, length-append, AreSetsOf, passed, is_kept_of, slot_at, place_at, SetHandle, Held, handles_both, handles_long, ComesOf, HoldEach, NoneComes, kept_of, slots_in}
+use Rattle.descriptor_manager.proofs.Requests.{Brings, brought, from_asked, still_all_of, from_refused}
+use Rattle.descriptor_manager.proofs.Joining.{held_stays, holds_after, joined, all_of_after, layout_stays, stays_then, fit_both}
 use Rattle.descriptor_manager.proofs.store.Store.allocate_with_new.Goals.{After-hold_coming}
 use Rattle.descriptor_manager.proofs.store.Store.allocate_with_new.Goals as goal
 
@@ -28,7 +28,17 @@ first g c i lt some =
     (c.hold_kept.ensures.were_kept i (omega arith))
 
 pub hold_coming-requires-clause-layout : goal.hold_coming-requires-clause-layout
-hold_coming-requires-clause-layout g c = layout_stays _ _ _ (stays_then _ _ _ c.bring.ensures.stays c.hold_kept.ensures.keeps.stays) c.requires.can.layout
+hold_coming-requires-clause-layout g c = layout_stays _ _ _ (stays_then _ _ _ c.bring.ensures.stays c.hold_kept.ensures.keeps.stays).settings c.requires.can.layout
+
+pub hold_coming-requires-clause-known : goal.hold_coming-requires-clause-known
+hold_coming-requires-clause-known g c =
+    let d = g.D.DescriptorDevice in
+    let known = c.args.known.now.layout in
+    let brings = brought known c.args.layout (length c.args.names.now) c.args.self.now c.bring.new.self c.requires.short c.in_ok-bring.ensures.asks in (
+      known,
+      subst (AreSetsOf d.meaning known) (sym c.hold_kept.ensures.coming) brings.own,
+      all_of_after d.meaning known c.args.layout NoneComes _ _ (λ n x none. absurd none) c.hold_kept.ensures.keeps.sets (still_all_of _ _ _ _ _ brings c.requires.can.own),
+    )
 
 pub returns-in_err-bring-clause-requests : goal.returns-in_err-bring-clause-requests
 returns-in_err-bring-clause-requests g c =
@@ -39,7 +49,7 @@ pub returns-clause-requests : goal.returns-clause-requests
 returns-clause-requests g c =
     let a = (goal.at.returns-clause-requests g c).After-hold_coming in
     let kept = c.hold_kept.ensures.keeps in
-    let came = c.hold_coming.ensures.keeps c.args.known.now.layout (subst (AreOfLayout g.D.DescriptorDevice.meaning c.args.known.now.layout) (sym c.hold_kept.ensures.coming) (brings g a).own) in
+    let came = c.hold_coming.ensures.keeps c.args.known.now.layout (subst (AreSetsOf g.D.DescriptorDevice.meaning c.args.known.now.layout) (sym c.hold_kept.ensures.coming) (brings g a).own) in
     from_asked _ _ _ _ _ c.bring.new.self c.requires.can.rest c.requires.short _ _ _ refl c.bring.ensures.stays c.in_ok-bring.ensures.asks
     (all_held g a) (first g a)
     (holds_after NoneComes (ComesOf g.D.DescriptorDevice.meaning c.args.known.now.layout c.args.layout) _ _ _ _ _ _ _ (λ n x none. absurd none) refl c.hold_coming.ensures.holds kept came)

@@ -1,4 +1,5 @@
-use Rattle.descriptor_manager.proofs.Common.{common_steps, ℕ, ap, subst, arith, ◌-◌, ◌∙◌, inl, inr, sym, true≢false, Ghosts, AllocationError, passed, count, is_kept, Asks, IsCleared, IsRefused, KeepsContents, kept_of, Store}
+use Rattle.descriptor_manager.proofs.Common.{common_steps, ℕ, Ok, Err, Result, HasRoom, ap, subst, arith, ◌-◌, ◌∙◌, inl, inr, sym, true≢false, Ghosts, AllocationError, passed, count, is_kept, Asks, IsCleared, IsRefused, KeepsContents, kept_of, Store}
+use Rattle.std.specs.Prelude.{OnOk}
 use Rattle.std.proofs.lemmas.Result.{IfErr-weaker, on_ok_weaker}
 use Rattle.descriptor_manager.proofs.Arriving.{none_left}
 use Rattle.descriptor_manager.proofs.store.Store.bring.Goals.{After-cleanup}
@@ -14,6 +15,11 @@ module _ {L P S D : Type 0} {d : Ghosts D L P S} (layout : L) (old mid new : Sto
   -- so many sets are on their way
   asks_from : (many : ℕ) → Asks layout many mid new → Asks layout many old new
   asks_from many asks = grind (arith, common_steps)
+
+-- what two clauses say of a request that is met
+both : {T E P Q Z : Type 0} (r : Result T E) → (P → Q → Z) → OnOk r P → OnOk r Q → OnOk r Z
+both (Ok x) f p q = f p q
+both (Err e) f p q = tt
 
 -- a refusal, and a cleanup
 cleaned_up : (g : _) (c : After-cleanup g) → IsCleared c.args.known.now.layout (c.args.many - kept_of c.args.layout c.args.self.now) c.args.many c.args.self.now c.cleanup.new.self
@@ -52,3 +58,6 @@ returns-in_ok-reserve-in-Err-clause-refused g c =
       none = inl (ap (count is_kept) (refused.slots ∙ kept.slots) ∙ none_left _ _ c.cleanup.ensures.cleaned);
       why = inr (c.cleanup.new.self, up, inl (refused_from _ _ _ _ kept _ error refused));
     }) c.ask_for-in-Err.ensures.refused
+
+pub returns-in_ok-reserve-in-Err-clause-table : goal.returns-in_ok-reserve-in-Err-clause-table
+returns-in_ok-reserve-in-Err-clause-table g c = both c.ask_for-in-Err.result (λ asks room. subst (λ n. HasRoom n c.ask_for-in-Err.new.self.table) (sym asks.hands_out.many) room) c.ask_for-in-Err.ensures.asks c.ask_for-in-Err.ensures.table

@@ -1,13 +1,13 @@
 use Rattle.descriptor_manager.proofs.Common.{rules, is_due, removed_of, slots_of, vacated, IsBack, Turns, due_full}
-use Rattle.descriptor_manager.proofs.Given.{accounted_as, exact_as}
-use Rattle.descriptor_manager.proofs.Back.{came_back, turned_sets}
+use Rattle.descriptor_manager.proofs.Given.{accounted_as, exact_as, turned_whole}
+use Rattle.descriptor_manager.proofs.Back.{came_back}
 use Rattle.descriptor_manager.proofs.Arriving.{follow_turns, follows_back, none_goes, arrived}
 use Rattle.descriptor_manager.proofs.store.Store.finish.Goals.{After-give, After-settle_due}
 use Rattle.descriptor_manager.proofs.store.Store.finish.Goals as goal
 
 pub invariant_of-self : goal.invariant_of-self
 invariant_of-self g c =
-    let same = turned_sets c.settle_due.ensures.slots (search rules) in
+    let same = turned_whole _ _ c.settle_due.ensures.stays c.settle_due.ensures.slots (search rules) in
     record { agree = search rules; exact = exact_as c.args.self.now same; accounted = accounted_as c.args.self.now same }
 
 -- those that were due were freed

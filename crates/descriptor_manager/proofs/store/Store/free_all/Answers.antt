@@ -1,13 +1,13 @@
 use Rattle.descriptor_manager.proofs.Common.{◌∙◌, is_some, rules, Becomes, Turns, slots_of, vacated}
-use Rattle.descriptor_manager.proofs.Given.{accounted_as, exact_as}
-use Rattle.descriptor_manager.proofs.Back.{all_leave, left_follows, turned_sets}
+use Rattle.descriptor_manager.proofs.Given.{accounted_as, exact_as, turned_whole}
+use Rattle.descriptor_manager.proofs.Back.{all_leave, left_follows}
 use Rattle.descriptor_manager.proofs.Arriving.{arrived}
 use Rattle.descriptor_manager.proofs.store.Store.free_all.Goals.{After-give, After-trim}
 use Rattle.descriptor_manager.proofs.store.Store.free_all.Goals as goal
 
 pub invariant_of-self : goal.invariant_of-self
 invariant_of-self g c =
-    let same = turned_sets c.trim.ensures.turns.slots (search rules) ∙ turned_sets c.let_held_go.ensures.slots (search rules) ∙ turned_sets c.let_waiting_go.ensures.slots (search rules) in
+    let same = turned_whole _ _ c.trim.ensures.turns.stays c.trim.ensures.turns.slots (search rules) ∙ turned_whole _ _ c.let_held_go.ensures.stays c.let_held_go.ensures.slots (search rules) ∙ turned_whole _ _ c.let_waiting_go.ensures.stays c.let_waiting_go.ensures.slots (search rules) in
     record { agree = search rules; exact = exact_as c.args.self.now same; accounted = accounted_as c.args.self.now same }
 
 -- each left its slot

@@ -1,7 +1,7 @@
 use Rattle.descriptor_manager.proofs.Common.{◌∙◌, refl, rules, IsBack, TurnEach, removed_of, slots_of, vacated}
-use Rattle.descriptor_manager.proofs.Given.{accounted_as, exact_as}
+use Rattle.descriptor_manager.proofs.Given.{accounted_as, any_whole, exact_as}
 use Rattle.descriptor_manager.proofs.Arriving.{follow_each, follows_back, arrived}
-use Rattle.descriptor_manager.proofs.Back.{any_sets, back_each}
+use Rattle.descriptor_manager.proofs.Back.{back_each}
 use Rattle.descriptor_manager.proofs.store.Store.free_each.Goals.{After-give, After-settle_held}
 use Rattle.descriptor_manager.proofs.store.Store.free_each.Goals as goal
 
@@ -9,7 +9,7 @@ pub invariant_of-self : goal.invariant_of-self
 invariant_of-self g c =
     let s = c.args.self.now in
     let held = c.settle_held.ensures in
-    let same = any_sets c.settle_held.result held.back held.none (search rules) in
+    let same = any_whole _ _ held.stays (search rules) c.settle_held.result held.back held.none in
     record { agree = search rules; exact = exact_as c.args.self.now same; accounted = accounted_as c.args.self.now same }
 
 back : (g : _) (c : After-give g) → TurnEach (g.N.SetName.handles_of c.args.names.now) (IsBack vacated (removed_of c.args.self.now.table) c.args.self.now.table.keep) (slots_of c.args.self.now.table) (slots_of c.give.new.self.table)

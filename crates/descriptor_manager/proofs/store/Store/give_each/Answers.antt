@@ -1,5 +1,5 @@
-use Rattle.descriptor_manager.proofs.Common.{rules, length, sym, ap, arith, items_of, count_of, sets_in, slots_of, given_all}
-use Rattle.descriptor_manager.proofs.Given.{all_count, all_many, given_count}
+use Rattle.descriptor_manager.proofs.Common.{rules, length, sym, ap, arith, items_of, count_of, whole_sets}
+use Rattle.descriptor_manager.proofs.Given.{all_count, all_many, given_all, given_count}
 use Rattle.descriptor_manager.proofs.store.Store.give_each.Goals as goal
 
 pub free_from-requires-clause-outstanding : goal.free_from-requires-clause-outstanding
@@ -14,14 +14,14 @@ invariant_of-self-clause-exact g c = λ i.
     let f = c.free_from.ensures.frees in
     let all = all_count f.sets _ _ f.drained name i in
     let back = f.returns.back.returned i in
-    let end = ap (λ t. count_of i (items_of name (sets_in (slots_of t)))) c.end.ensures in
+    let end = ap (λ t. count_of i (items_of name (whole_sets t))) c.end.ensures in
     omega (arith, c.args.self.now.exact i)
 
 pub invariant_of-self-clause-accounted : goal.invariant_of-self-clause-accounted
 invariant_of-self-clause-accounted g c =
     let f = c.free_from.ensures.frees in
     let all = all_many f.sets _ _ f.drained in
-    let end = ap (λ t. length (sets_in (slots_of t))) c.end.ensures in
+    let end = ap (λ t. length (whole_sets t)) c.end.ensures in
     omega arith
 
 pub returns : goal.returns

@@ -1,4 +1,4 @@
-use Rattle.descriptor_manager.proofs.Common.{common_steps, ◌≡◌, ℕ, suc, ◌+◌, ◌&&◌, true, List, [], ◌∷◌, length, is_some, refl, arith, and_right, outstanding_of, sets_in, Slot, count, in_list, slot_at, waits, waits_for, holds, is_held_use, is_kept, Use, bit, is_placed, slots_in}
+use Rattle.descriptor_manager.proofs.Common.{common_steps, ◌≡◌, ℕ, suc, ◌+◌, ◌&&◌, true, List, [], ◌∷◌, length, is_some, refl, arith, and_right, outstanding_of, filter_map, Slot, count, in_list, slot_at, waits, waits_for, holds, is_held_use, is_kept, Use, bit, is_placed, slots_in, whole_in, CompactDescriptorSet}
 use Rattle.descriptor_manager.proofs.Arriving.{placed_in}
 use Rattle.descriptor_manager.proofs.store.Store.held.Goals.{After-waiting}
 use Rattle.descriptor_manager.proofs.store.Store.held.Goals as goal
@@ -9,15 +9,15 @@ use Rattle.descriptor_manager.proofs.store.Store.held.Goals as goal
 one_of : (u : Use) (l g : ℕ) → placed_in u true l g ≡ true → 1 ≡ bit (is_held_use u && true) + (bit (waits_for (λ w. true) u && true) + bit (in_list (l + 2) u l g true))
 one_of u l g e = grind (arith, common_steps)
 
-module _ {T : Type 0} where
+module _ {S : Type 0} where
   -- a slot of a store at rest counts once if it has a set, by whichever of the three its set is
-  placed_bits : (s : Slot T) → is_placed s ≡ true → bit (is_some s.set) ≡ bit (holds s) + (bit (waits s) + bit (is_kept s))
+  placed_bits : (s : Slot (CompactDescriptorSet S)) → is_placed s ≡ true → bit (is_some s.set) ≡ bit (holds s) + (bit (waits s) + bit (is_kept s))
   placed_bits s e = grind (arith, common_steps, and_right, bit, one_of, placed_in)
 
   -- the sets are those that are held, those that wait, and those that are kept
-  placed_count : (slots : List (Slot T)) → ((p : ℕ) → is_placed (slot_at slots p) ≡ true) → length (sets_in slots) ≡ count holds slots + (count waits slots + count is_kept slots)
-  placed_count [] placed = refl
-  placed_count (s ∷ slots) placed = grind (arith, common_steps, placed_bits s (placed 0), placed_count slots (λ p. placed (suc p)))
+  placed_count : (ids : ℕ → ℕ) (slots : List (Slot (CompactDescriptorSet S))) → ((p : ℕ) → is_placed (slot_at slots p) ≡ true) → length (filter_map (whole_in ids) slots) ≡ count holds slots + (count waits slots + count is_kept slots)
+  placed_count ids [] placed = refl
+  placed_count ids (s ∷ slots) placed = grind (arith, common_steps, placed_bits s (placed 0), placed_count ids slots (λ p. placed (suc p)))
 
 -- as many sets are live in the allocator as are held, wait and are kept
 all : (g : _) (c : After-waiting g) → outstanding_of c.args.self.now.allocator ≡ count holds (slots_in c.args.self.now) + (count waits (slots_in c.args.self.now) + count is_kept (slots_in c.args.self.now))

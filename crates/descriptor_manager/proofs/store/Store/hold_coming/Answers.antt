@@ -1,9 +1,15 @@
 use Rattle.descriptor_manager.proofs.Common.{◌∙◌, subst, arith, length-set, take_all, AllFit, ComesOf, slots_in}
-use Rattle.descriptor_manager.proofs.Joining.{holds_after, held_stays, layout_stays, stays_then, one_more}
+use Rattle.descriptor_manager.proofs.Joining.{holds_after, held_stays, all_of_after, layout_stays, stays_then, one_more}
 use Rattle.descriptor_manager.proofs.store.Store.hold_coming.Goals as goal
 
 pub hold_last-requires-clause-layout : goal.hold_last-requires-clause-layout
-hold_last-requires-clause-layout g c = layout_stays _ _ _ c.loop-index.invariant.stays c.requires.layout
+hold_last-requires-clause-layout g c = layout_stays _ _ _ c.loop-index.invariant.stays.settings c.requires.layout
+
+pub hold_last-requires-clause-known : goal.hold_last-requires-clause-known
+hold_last-requires-clause-known g c =
+    let was = c.loop-index.invariant in
+    let keyed = c.requires.known in
+    (keyed.0, was.own keyed.0 keyed.1, all_of_after g.D.DescriptorDevice.meaning keyed.0 c.args.layout (ComesOf g.D.DescriptorDevice.meaning keyed.0 c.args.layout) _ _ (λ n x come. come.1) (was.keeps keyed.0 keyed.1).sets keyed.2)
 
 pub loop-index-preserved : goal.loop-index-preserved
 loop-index-preserved g c =

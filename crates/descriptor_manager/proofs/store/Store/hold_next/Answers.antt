@@ -1,12 +1,12 @@
 use Rattle.descriptor_manager.proofs.Common.{refl, rules, room_stays}
-use Rattle.descriptor_manager.proofs.Given.{accounted_as, exact_as, renewed_sets}
+use Rattle.descriptor_manager.proofs.Given.{accounted_as, exact_as, renewed_whole}
 use Rattle.descriptor_manager.proofs.Handing.{kept_fewer, kept_long, kept_one, usable_stays}
 use Rattle.descriptor_manager.proofs.Requests.{kept_holds}
 use Rattle.descriptor_manager.proofs.store.Store.hold_next.Goals as goal
 
 pub invariant_of-self : goal.invariant_of-self
 invariant_of-self g c =
-    let same = renewed_sets _ _ _ _ _ _ c.hold_kept.ensures.renews in
+    let same = renewed_whole _ _ c.hold_kept.ensures.stays _ _ _ _ c.hold_kept.ensures.renews in
     record { agree = search rules; exact = exact_as c.args.self.now same; accounted = accounted_as c.args.self.now same }
 
 pub returns-clause-holds : goal.returns-clause-holds

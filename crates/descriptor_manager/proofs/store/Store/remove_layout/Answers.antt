@@ -1,4 +1,4 @@
-use Rattle.descriptor_manager.proofs.Common.{true, ◌∙◌, ap, sym, subst, arith, List, items_of, count_of, DescriptorSet, sets_in, is_kept_of, Settings, Turns, Becomes, removed_as, slots_of, vacated, side_of, slots_in}
+use Rattle.descriptor_manager.proofs.Common.{true, ◌∙◌, ap, sym, subst, arith, List, items_of, count_of, DescriptorSet, filter_map, whole_in, whole_sets, ◌≡◌, is_kept_of, Settings, Turns, Becomes, removed_as, slots_of, vacated, side_of, slots_in}
 use Rattle.descriptor_table.specs.Slots as table
 use Rattle.descriptor_manager.proofs.Joining.{layout_stays}
 use Rattle.descriptor_manager.proofs.store.Store.remove_layout.Goals.{After-remove_layout}
@@ -8,7 +8,7 @@ turns : (g : _) (c : After-remove_layout g) → Turns (is_kept_of c.args.layout)
 turns g c = subst (λ v. Turns (is_kept_of c.args.layout) (Becomes vacated) (slots_in c.args.self.now) (table.slots_in v)) (sym c.remove_layout.ensures.slots) c.give.ensures.frees.turns
 
 pub remove_layout-requires-clause-layout : goal.remove_layout-requires-clause-layout
-remove_layout-requires-clause-layout g c = layout_stays _ _ _ c.give.ensures.stays c.requires.layout
+remove_layout-requires-clause-layout g c = layout_stays _ _ _ c.give.ensures.stays.settings c.requires.layout
 
 -- no set of the layout is kept any more
 pub returns-clause-removes : goal.returns-clause-removes
@@ -23,7 +23,7 @@ returns-clause-removes g c =
           let coming = λ (l : List (DescriptorSet g.row.S.Denot)). count_of t (items_of g.D.DescriptorDevice.meaning.set_name l) in
           let none = ap coming c.give.ensures.coming in
           let back = c.give.ensures.frees.back.returns.back.returned t in
-          let same = ap (λ v. coming (sets_in (table.slots_in v))) c.remove_layout.ensures.slots in
+          let same : coming (whole_sets c.remove_layout.new.self) ≡ coming (whole_sets c.give.new.self.table) = (λ i. coming (filter_map (whole_in (c.remove_layout.ensures.ids i)) (table.slots_in (c.remove_layout.ensures.slots i)))) in
           omega arith
           );
     }

@@ -1,11 +1,11 @@
 use Rattle.descriptor_manager.proofs.Common.{◌≡◌, None, refl, ap, rules, slots_of, slots_in, eq-eqb}
-use Rattle.descriptor_manager.proofs.Given.{accounted_as, exact_as, reused_sets}
+use Rattle.descriptor_manager.proofs.Given.{accounted_as, exact_as, reused_whole}
 use Rattle.descriptor_manager.proofs.Requests.{one_or_none}
 use Rattle.descriptor_manager.proofs.store.Store.reuse.Goals as goal
 
 pub invariant_of-self : goal.invariant_of-self
 invariant_of-self g c =
-    let same = reused_sets _ _ _ _ _ c.hold_for_frame.ensures.renews (λ is. ap slots_of (c.hold_for_frame.ensures.none is)) in
+    let same = reused_whole _ _ c.hold_for_frame.ensures.stays _ _ c.hold_for_frame.result c.hold_for_frame.ensures.renews (λ is. ap slots_of (c.hold_for_frame.ensures.none is)) in
     record { agree = search rules; exact = exact_as c.args.self.now same; accounted = accounted_as c.args.self.now same }
 
 pub returns : goal.returns

@@ -1,14 +1,14 @@
-use Rattle.descriptor_manager.proofs.Common.{common_steps, ◌∙◌, ◌+◌, ap, subst, arith, rules, sets_in, goes, Turns, Becomes, is_kept, slots_of, vacated, MayBecome}
+use Rattle.descriptor_manager.proofs.Common.{common_steps, ◌∙◌, ◌+◌, subst, arith, rules, filter_map, goes, Turns, Becomes, is_kept, slots_of, vacated, MayBecome, whole_in}
 use Rattle.descriptor_table.specs.Slots.{slots_in}
-use Rattle.descriptor_manager.proofs.Given.{accounted_as, exact_as}
-use Rattle.descriptor_manager.proofs.Back.{given_kept, left, turned_sets}
+use Rattle.descriptor_manager.proofs.Given.{accounted_as, exact_as, turned_whole}
+use Rattle.descriptor_manager.proofs.Back.{given_kept, left}
 use Rattle.descriptor_manager.proofs.Arriving.{follow_turns, follows_vacated, none_goes, arrived, same_arrives}
 use Rattle.descriptor_manager.proofs.store.Store.set_max_kept.Goals.{After-give, After-set_max_kept}
 use Rattle.descriptor_manager.proofs.store.Store.set_max_kept.Goals as goal
 
 pub invariant_of-self : goal.invariant_of-self
 invariant_of-self g c =
-    let same = ap (λ v. sets_in (slots_in v)) c.set_max_kept.ensures.slots ∙ turned_sets c.trim.ensures.turns.slots (search rules) in
+    let same = (λ i. filter_map (whole_in (c.set_max_kept.ensures.ids i)) (slots_in (c.set_max_kept.ensures.slots i))) ∙ turned_whole _ _ c.trim.ensures.turns.stays c.trim.ensures.turns.slots (search rules) in
     record { agree = search rules; exact = exact_as c.args.self.now same; accounted = accounted_as c.args.self.now same }
 
 -- those that were let go were returned

@@ -13,4 +13,4 @@ invariant_of-self-clause-sound g c =
 pub invariant_of-self-clause-counted : goal.invariant_of-self-clause-counted
 invariant_of-self-clause-counted g c =
     let s = c.args.self.now in
-    in_place (λ layouts removed. AreCounted (slots_of s) layouts removed (users_in c.add-2.new.self)) _ _ _ _ c.add.ensures.layouts c.add.ensures.removed (subst (AreCounted (slots_of s) (layouts_of s + 1) (removed_of s)) (sym c.add-2.ensures) (added_counted s))
+    in_place (λ layouts removed. AreCounted (slots_of s) layouts removed (users_in c.add-2.new.self)) _ _ _ _ c.add.ensures.layouts c.add.ensures.removed (subst (AreCounted (slots_of s) (layouts_of s + 1) (removed_of s)) (sym c.add-2.ensures.users) (added_counted s))

@@ -1,14 +1,13 @@
-use Rattle.descriptor_table.proofs.Common.{nexts_in, renewed, ap, get_or, waits, ◌≡◌, ◌∙◌, ◌+◌, ◌<◌, true, length, refl, sym, rules, arith, AreSound, chain_at, is_kept_of, slot_at, slots_in, slots_of, chains_in, KeptOf, Chain}
+use Rattle.descriptor_table.proofs.Common.{places_in, last_up_to, frame_of, IsQueue, subst, renewed, ap, get_or, waits, ◌≡◌, ◌∙◌, ◌+◌, ◌<◌, true, length, refl, sym, rules, arith, length-set, AreSound, chain_at, is_kept_of, slot_at, slots_in, slots_of, chains_in, KeptOf, Chain}
 use Rattle.descriptor_table.proofs.Chains.{listed_out}
 use Rattle.descriptor_table.proofs.Counts.{chain_short, group_has}
 use Rattle.descriptor_table.proofs.Entries.{in_place}
-use Rattle.descriptor_table.proofs.Heads.{first, left_sound, more, still}
+use Rattle.descriptor_table.proofs.Heads.{first, left_sound, more}
 use Rattle.descriptor_table.proofs.Listed.{slot_set}
 use Rattle.descriptor_table.proofs.Numbers.{list_counted}
 use Rattle.descriptor_table.proofs.Renewing.{kept_is}
 use Rattle.descriptor_table.proofs.set_table.SetTable.hold_after.Goals.{After-first-place}
 use Rattle.descriptor_table.proofs.set_table.SetTable.hold_after.Goals as goal
-use Rattle.descriptor_table.proofs.Waiting.{near_nexts, queue_nexts}
 
 pub first-place-requires : goal.first-place-requires
 first-place-requires g c = group_has c.args.self.now (KeptOf c.args.layout) c.requires.some
@@ -43,14 +42,14 @@ pub renew-generation-requires-clause-next : goal.renew-generation-requires-claus
 renew-generation-requires-clause-next g c = (kept_is (c.args.layout + 2) (slot_at (slots_of c.args.self.now) c.first-place.result) (omega arith) (at g (goal.at.renew-generation-requires-clause-next g c).After-first-place).1).0
 
 pub at-requires-2 : goal.at-requires-2
-at-requires-2 g c = let a = (goal.at.at-requires-2 g c).After-first-place in search (rules, still c.args.self.now (c.args.layout + 2) c.requires.some (list g a) (was g a))
+at-requires-2 g c = search (rules, length-set, at g (goal.at.at-requires-2 g c).After-first-place)
 
 -- it has a set
 pub of-name-requires : goal.of-name-requires
 of-name-requires g c = search (rules, kept_is, slot_set, at g (goal.at.of-name-requires g c).After-first-place)
 
 pub enqueue-requires-clause-within : goal.enqueue-requires-clause-within
-enqueue-requires-clause-within g c = let a = (goal.at.enqueue-requires-clause-within g c).After-first-place in search (rules, still c.args.self.now (c.args.layout + 2) c.requires.some (list g a) (was g a))
+enqueue-requires-clause-within g c = search (rules, length-set, at g (goal.at.enqueue-requires-clause-within g c).After-first-place)
 
 pub enqueue-requires-clause-came : goal.enqueue-requires-clause-came
 enqueue-requires-clause-came g c =
@@ -59,7 +58,7 @@ enqueue-requires-clause-came g c =
     let nexts = sym c.renew-generation.ensures.nexts in
     let k = c.args.layout + 2 in
     let full = (kept_is k (slot_at (slots_of s) c.first-place.result) (omega arith) was).1 in
-    (slots_of s, renewed c.args.used (slot_at (slots_of s) c.first-place.result), c.renew-generation.ensures.writes.slots, refl, full, listed_out k (slot_at (slots_of s) c.first-place.result) was, queue_nexts (slots_of s) 0 (nexts_in s.slots) _ s.waiting nexts s.sound.queue, λ is. near_nexts (slots_of s) _ (nexts_in s.slots) _ s.waiting c.args.near nexts (c.requires.near is))
+    (slots_of s, renewed c.args.used (slot_at (slots_of s) c.first-place.result), c.renew-generation.ensures.writes.slots, refl, full, listed_out k (slot_at (slots_of s) c.first-place.result) was, subst (λ n. IsQueue (slots_of s) (places_in n s.waiting) s.waiting.last) nexts s.sound.queue, λ is. c.requires.near is ∙ ap (λ n. last_up_to (slots_of s) (frame_of c.args.used) (places_in n s.waiting)) nexts)
 
 pub invariant_of-self-clause-sound : goal.invariant_of-self-clause-sound
 invariant_of-self-clause-sound g c =

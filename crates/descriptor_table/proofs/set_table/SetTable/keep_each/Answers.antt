@@ -1,11 +1,12 @@
-use Rattle.descriptor_table.proofs.Common.{◌≡◌, ◌∙◌, ◌+◌, ◌<◌, length, refl, sym, subst, arith, chain_at, chains_in, layouts_of, removed_of, slots_in, slots_of, users_in, AreCounted, AreSound, KeptOf, Some, SetTable, Kept, Going, IsBack, ap, inl, length-set, place_at, slot_at, used_for, ℕ, last_or, None, walk, nexts_in, get_or}
+use Rattle.descriptor_table.proofs.Common.{common_steps, ◌≡◌, ◌∙◌, ◌+◌, ◌<◌, length, refl, sym, subst, arith, chain_at, chains_in, layouts_of, removed_of, slots_in, slots_of, users_in, AreCounted, AreSound, KeptOf, Some, SetTable, Kept, ap, length-set, place_at, slot_at, used_for, ℕ, last_or, None, walk, nexts_in, get_or}
 use Rattle.descriptor_table.proofs.Chains.{and_true, unheld}
 use Rattle.descriptor_table.proofs.Counts.{chain_counts}
 use Rattle.descriptor_table.proofs.Entries.{in_place}
 use Rattle.descriptor_table.proofs.Holding.{held_is}
 use Rattle.descriptor_table.proofs.Keeping.{few_kept, kept_sound}
 use Rattle.descriptor_table.proofs.Listed.{other_slots, slot_set}
-use Rattle.descriptor_table.proofs.Names.{first_read, handles_long, names_last, place_read, some_names}
+use Rattle.descriptor_table.proofs.Names.{handles_long, names_last, place_read}
+use Rattle.std.proofs.lemmas.Option.{get_or_from_slice_get, slice_get_within}
 use Rattle.descriptor_table.proofs.Relisted.{group_within}
 use Rattle.descriptor_table.proofs.Reusing.{Reused, reused_counted, reused_each, reused_none, took_sound}
 use Rattle.descriptor_table.proofs.set_table.SetTable.keep_each.Goals.{In-Some-use_each}
@@ -33,8 +34,8 @@ module _ (g : _) (c : In-Some-use_each g) where
 
   ends : get_or (nexts_in c.use_each.new.self) c.handle.result.place 0 ≡ (chain_at (chains_in s.lists) (layout + 2)).first
   ends =
-      let some : 0 < length c.args.names.now = omega (arith, some_names c.args.names.now c.in-Some.name.now c.in-Some.ensures.value) in
-      let at = place_read g.N.SetName g.met.N.SetName.each c.args.names.now 0 c.in-Some.name.now c.handle.result some (first_read c.args.names.now c.in-Some.name.now c.in-Some.name.now c.in-Some.ensures.value) c.handle.ensures in
+      let some : 0 < length c.args.names.now = slice_get_within c.args.names.now 0 c.in-Some.name.now (sym c.in-Some.ensures.value) in
+      let at = place_read g.N.SetName g.met.N.SetName.each c.args.names.now 0 c.in-Some.name.now c.handle.result some (sym (get_or_from_slice_get c.args.names.now 0 c.in-Some.name.now c.in-Some.name.now (sym c.in-Some.ensures.value))) c.handle.ensures in
       subst (λ p. get_or (nexts_in c.use_each.new.self) p 0 ≡ (chain_at (chains_in s.lists) (layout + 2)).first) at (c.in-Some-use_each.ensures.ends refl some ∙ c.first-next.ensures)
 
   few : (chain_at (chains_in s.lists) (layout + 2)).count + length c.args.names.now < 4294967295
@@ -68,11 +69,7 @@ returns-then-names-eq1-clause-back g c = λ t.
     let p = (g.N.SetName.handle_of name).place in
     let kept = c.keep_named.ensures in
     let one = c.if-names-eq1.true in
-    let at : place_at handles 0 ≡ p = place_read g.N.SetName g.met.N.SetName.each c.args.names.now 0 name (g.N.SetName.handle_of name) (omega arith) (first_read c.args.names.now name name c.in-Some.ensures.value) refl in
+    let at : place_at handles 0 ≡ p = place_read g.N.SetName g.met.N.SetName.each c.args.names.now 0 name (g.N.SetName.handle_of name) (omega arith) (sym (get_or_from_slice_get c.args.names.now 0 name name (sym c.in-Some.ensures.value))) refl in
     let long = handles_long g.N.SetName g.met.N.SetName.each c.args.names.now in
     let here = slot_set old p (used_for Kept (slot_at old p)) (held_is c.args.self.now.number old (g.N.SetName.handle_of name) (and_true _ _ (kept.held t)).1).within in
-    record {
-      long = ap length (kept.keeps t) ∙ length-set old p (used_for Kept (slot_at old p));
-      named = λ i lt. (let first : i ≡ 0 = omega arith in subst (λ q. IsBack (used_for Going) (removed_of c.args.self.now) c.args.self.now.keep (slots_of c.keep_named.new.self) (slot_at old q) (slot_at (slots_of c.keep_named.new.self) q)) (sym (ap (place_at handles) first ∙ at)) (inl (ap (λ l. slot_at l p) (kept.keeps t) ∙ here, kept.may t)));
-      rest = λ q none. ap (λ l. slot_at l q) (kept.keeps t) ∙ other_slots old p _ q (λ e. none 0 (omega arith) (at ∙ sym e));
-    }
+    grind (arith, common_steps, long, at, here, kept.keeps t, kept.may t, length-set, other_slots old p (used_for Kept (slot_at old p)))

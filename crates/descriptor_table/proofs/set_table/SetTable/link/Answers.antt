@@ -19,11 +19,3 @@ invariant_of-self-clause-sound g c =
 
 pub invariant_of-self-clause-counted : goal.invariant_of-self-clause-counted
 invariant_of-self-clause-counted g c = list_counted c.args.self.now (slots_in c.link.new.self) c.args.place _ c.link.ensures.writes.slots c.requires.within refl refl (list_of c.args.group) _ c.push.new.self c.push.ensures
-
-pub returns : goal.returns
-returns g c =
-    let s = c.args.self.now in
-    record {
-      slots = c.link.ensures.writes.slots;
-      stays = record { settings = λ i. record { number = s.number; layouts = c.push.ensures.layouts i; removed = c.push.ensures.removed i; keep = s.keep }; space = c.link.ensures.writes.space };
-    }

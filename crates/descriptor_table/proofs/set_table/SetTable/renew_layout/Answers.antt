@@ -1,14 +1,14 @@
-use Rattle.descriptor_table.proofs.Common.{false, refl, subst, sym, AreCounted, is_set_of, layouts_of, removed_of, removed_as, slots_of, users_in}
+use Rattle.descriptor_table.proofs.Common.{rules, false, arith, refl, subst, sym, AreCounted, is_set_of, layouts_of, removed_of, removed_as, slots_of, users_in}
 use Rattle.descriptor_table.proofs.Counts.{count_none}
 use Rattle.descriptor_table.proofs.Entries.{in_place}
-use Rattle.descriptor_table.proofs.Numbers.{free_is, renewed_counted}
+use Rattle.descriptor_table.proofs.Numbers.{free_is, relayout_counted}
 use Rattle.descriptor_table.proofs.set_table.SetTable.renew_layout.Goals as goal
 
 pub invariant_of-self-2-clause-counted : goal.invariant_of-self-2-clause-counted
 invariant_of-self-2-clause-counted g c =
     let s = c.args.self.now in
     let e = c.in_ok-layout.ensures in
-    in_place (λ layouts removed. AreCounted (slots_of s) layouts removed (users_in c.take.new.self)) _ _ _ _ c.renew.ensures.layouts c.renew.ensures.removed (subst (AreCounted (slots_of s) (layouts_of s) (removed_as false c.in_ok-layout.layout (removed_of s))) (sym e.users) (renewed_counted s c.in_ok-layout.layout e.within e.free))
+    in_place (λ layouts removed. AreCounted (slots_of s) layouts removed (users_in c.take.new.self)) _ _ _ _ c.renew.ensures.layouts c.renew.ensures.removed (subst (AreCounted (slots_of s) (layouts_of s) (removed_as false c.in_ok-layout.layout (removed_of s))) (sym e.users) (let is = free_is s c.in_ok-layout.layout e.within e.free in relayout_counted s c.in_ok-layout.layout 1 false is.0 (omega (arith, is.2))))
 
 pub returns-clause-renews : goal.returns-clause-renews
 returns-clause-renews g c =
@@ -16,9 +16,4 @@ returns-clause-renews g c =
     let e = c.in_ok-layout.ensures in
     let n = c.in_ok-layout.layout in
     let is = free_is s n e.within e.free in
-    record {
-      within = is.0;
-      removed = is.1;
-      none = count_none (is_set_of n) (slots_of s) refl is.2;
-      only = record { slots = refl; settings = λ i. record { number = s.number; layouts = c.renew.ensures.layouts i; removed = c.renew.ensures.removed i; keep = s.keep } };
-    }
+    search (rules, is, count_none (is_set_of n) (slots_of s) refl is.2)

@@ -1,13 +1,14 @@
-use Rattle.descriptor_table.proofs.Common.{common_steps, ◌≢◌, arith, list_of, Group, KeptOf}
-use Rattle.descriptor_table.proofs.Renewing.{gives, listed_full}
+use Rattle.descriptor_table.proofs.Common.{common_steps, ℕ, ◌≡◌, arith, option_map, slot_at, slots_of, ids_of, subst}
+use Rattle.descriptor_table.proofs.Renewing.{gives}
 use Rattle.descriptor_table.proofs.Turning.{stays_more}
-use Rattle.descriptor_table.specs.declared.giving.Group.TheVariants.{Going}
 use Rattle.descriptor_table.proofs.set_table.SetTable.take_of.Goals as goal
 
--- no group has the list of vacant slots
-list_some : (group : Group) → list_of group ≢ 0
-list_some Going e = omega arith
-list_some (KeptOf n) e = omega arith
-
 pub returns : goal.returns
-returns g c = grind (arith, common_steps, gives, listed_full, list_some, stays_more)
+returns g c =
+    let s = c.args.self.now in
+    let pick = c.in_ok-place.ensures in
+    let slot = slot_at (slots_of c.pick.new.self) c.in_ok-place.place in
+    record {
+      slots = gives _ (ids_of s) _ c.take_out.result _ _ _ pick.slots (grind (arith, common_steps, pick.slots.was)) (subst (λ (ids : ℕ → ℕ). c.take_out.result ≡ option_map (λ x. (ids slot.layout, x)) slot.set) pick.stays.ids c.take_out.ensures.set) c.take_out.ensures.changes.slots;
+      stays = grind (arith, common_steps, stays_more);
+    }

@@ -1,4 +1,4 @@
-use Rattle.descriptor_table.proofs.Common.{◌+◌, arith, Slot, is_kept_of, slots_of}
+use Rattle.descriptor_table.proofs.Common.{common_steps, ◌+◌, arith, Slot, is_kept_of, slots_of}
 use Rattle.descriptor_table.proofs.Counts.{none_count}
 use Rattle.descriptor_table.proofs.Turning.{go_less, go_step, going_out, stays_more}
 use Rattle.descriptor_table.proofs.set_table.SetTable.trim_layout.Goals as goal
@@ -11,14 +11,9 @@ loop-self-smaller g c = omega (arith, go_less (is_kept_of c.args.layout) (slots_
 
 pub loop-self-preserved : goal.loop-self-preserved
 loop-self-preserved g c =
-    let inv = c.loop-self.invariant in
     let picks = c.in-Some.ensures in
     let now = slots_of c.loop-self.self in
     let mid = slots_of c.pick.new.self in
     let new = slots_of c.let_go.new.self in
     let out = λ (s : Slot g.row.T.Denot). going_out (c.args.layout + 2) s (omega arith) in
-    record {
-      turning = go_step (is_kept_of c.args.layout) now mid new c.in-Some.place picks.slots c.let_go.ensures.slots out (slots_of c.args.self.now) inv.turning;
-      enough = omega (arith, c.count.ensures, c.loop-self-test.true, go_less (is_kept_of c.args.layout) now mid new c.in-Some.place picks.slots c.let_go.ensures.slots out, inv.enough);
-      stays = stays_more c.args.self.now c.loop-self.self c.let_go.new.self inv.stays (stays_more c.loop-self.self c.pick.new.self c.let_go.new.self picks.stays c.let_go.ensures.stays);
-    }
+    grind (arith, common_steps, go_step (is_kept_of c.args.layout) now mid new c.in-Some.place picks.slots c.let_go.ensures.slots out (slots_of c.args.self.now), go_less (is_kept_of c.args.layout) now mid new c.in-Some.place picks.slots c.let_go.ensures.slots out, stays_more)

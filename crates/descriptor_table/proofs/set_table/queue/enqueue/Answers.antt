@@ -1,6 +1,6 @@
 use Rattle.descriptor_table.proofs.Common.{common_steps, ◌∙◌, ℕ, [], ◌∷◌, arith, refl, sym, length-set, frame_of, nexts_in, places_in, slots_in}
 use Rattle.descriptor_table.proofs.Counting.{walk_length}
-use Rattle.descriptor_table.proofs.Waiting.{ComesAt, comes_few, comes_has, comes_frame, out_queue, set_comes, still_near, still_rises}
+use Rattle.descriptor_table.proofs.Waiting.{ComesAt, comes_few, comes_has, out_queue, set_comes, still_near, still_rises}
 use Rattle.descriptor_table.proofs.set_table.queue.enqueue.Given.{Over}
 use Rattle.descriptor_table.proofs.set_table.queue.enqueue.Goals.{Else-not-waits}
 use Rattle.descriptor_table.proofs.set_table.queue.enqueue.Goals as goal
@@ -23,7 +23,7 @@ insert-requires g c =
     let f = frame_of c.args.used in
     let near = still_near came.0 (slots_in c.args.slots.now) l (c.args.place ∷ []) q.last f came.6 (comes g e) c.args.near (came.7 (sym c.waits.ensures ∙ c.if-not-waits.false)) in
     record {
-      place = (f, near, comes_frame came.0 (slots_in c.args.slots.now) l (c.args.place ∷ []) q.last f came.6 (comes g e));
+      place = (f, near, λ p some. grind (arith, comes g e p));
       few = omega (arith, walk_length q.list.count (nexts_in c.args.slots.now) q.list.first, comes_few came.0 (slots_in c.args.slots.now) l (c.args.place ∷ []) q.last f came.6 (comes g e), c.requires.size);
       has = comes_has came.0 (slots_in c.args.slots.now) l (c.args.place ∷ []) q.last f came.6 (comes g e);
       rises = still_rises came.0 (slots_in c.args.slots.now) l (c.args.place ∷ []) q.last f came.6 (comes g e);

@@ -1,8 +1,7 @@
-use Rattle.descriptor_table.proofs.Common.{◌≡◌, ◌≢◌, ◌<◌, ◌≤◌, ◌+◌, ◌++◌, ◌∙◌, List, ℕ, Some, ap, arith, rules, get_or, length, refl, set, subst, sym, times, last_or, get_or-set_other, nexts_in, places_in, slot_at, slots_in, waits, walk, Queue, IsQueue, frame_at, IsNonDecreasingBy}
+use Rattle.descriptor_table.proofs.Common.{common_steps, ◌≡◌, ◌≢◌, ◌<◌, ◌≤◌, ◌+◌, ◌++◌, ◌∙◌, List, ℕ, Some, ap, arith, rules, get_or, length, refl, set, subst, sym, times, last_or, get_or-set_other, nexts_in, places_in, slots_in, waits, walk, Queue, IsQueue, frame_at, IsNonDecreasingBy}
 use Rattle.std.proofs.lemmas.List.{length-append, set-get_or}
 use Rattle.descriptor_table.proofs.Counting.{Leads, after_last, after_other, last_between, last_in, leads_past, leads_walk, none_before, put_after, put_first, rises_between, times_append, walk_leads, walk_length}
-use Rattle.descriptor_table.proofs.Counts.{bit_few}
-use Rattle.descriptor_table.proofs.Listed.{bit, member, test_within}
+use Rattle.descriptor_table.proofs.Listed.{bit, test_within}
 use Rattle.descriptor_table.proofs.Sound.{same_long}
 use Rattle.descriptor_table.proofs.Waiting.{Found, comes_found}
 use Rattle.descriptor_table.proofs.set_table.queue.insert.Goals.{Start, in-Some, then-near-queue, else-near-queue, in-None+then-queue-eq0, in-None+else-queue-eq0}
@@ -21,7 +20,7 @@ module _ (g : _) (c : Start g) where
 
   -- each of both is there
   there : (p : ℕ) → times p (places_in next c.args.queue.now) + times p coming ≢ 0 → p < length (slots_in c.args.slots.now)
-  there p some = test_within waits (slots_in c.args.slots.now) p refl (member (waits (slot_at (slots_in c.args.slots.now) p)) (λ out. some (sym (times_append p (places_in next c.args.queue.now) coming) ∙ c.requires.has p ∙ ap bit out)))
+  there p some = test_within waits (slots_in c.args.slots.now) p refl (grind (arith, common_steps, times_append p (places_in next c.args.queue.now) coming, c.requires.has p))
 
   end_there : c.args.sets.last < length (slots_in c.args.slots.now)
   end_there = there c.args.sets.last (λ none. last_in c.args.sets.last coming c.requires.sets (omega (arith, none)))
@@ -30,7 +29,7 @@ module _ (g : _) (c : Start g) where
   near_there p is = there p (λ none. last_in p found.0 (found.3 ∙ is) (omega (arith, none, ap (times p) found.2, times_append p found.0 found.1)))
 
   few : (p : ℕ) → times p found.0 + times p found.1 + times p coming ≤ 1
-  few p = omega (arith, c.requires.has p, bit_few (waits (slot_at (slots_in c.args.slots.now) p)), times_append p (places_in next c.args.queue.now) coming, ap (times p) found.2, times_append p found.0 found.1)
+  few p = grind (arith, common_steps, c.requires.has p, times_append p (places_in next c.args.queue.now) coming, ap (times p) found.2, times_append p found.0 found.1)
 
   -- the queue that comes out, by these nexts
   made : (q q' : Queue) (nexts nexts' : List ℕ) → q' ≡ q → nexts' ≡ nexts → q.list.count ≡ c.args.queue.now.list.count → Leads nexts q.list.first (found.0 ++ (coming ++ found.1)) → (length found.1 ≡ 0 → q.last ≡ c.args.sets.last) → (length found.1 ≢ 0 → q.last ≡ c.args.queue.now.last) → IsQueue (slots_in c.args.slots.now) (walk (q'.list.count + c.args.sets.list.count) nexts' q'.list.first) q'.last

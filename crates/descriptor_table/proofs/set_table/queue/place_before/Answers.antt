@@ -1,12 +1,7 @@
-use Rattle.descriptor_table.proofs.Common.{ap, arith, length, refl, nexts_in, slots_in}
+use Rattle.descriptor_table.proofs.Common.{arith, refl, nexts_in, slots_in}
 use Rattle.descriptor_table.proofs.Counting.{walk_length}
-use Rattle.descriptor_table.proofs.Waiting.{found_first, found_last}
+use Rattle.descriptor_table.proofs.Waiting.{found_last}
 use Rattle.descriptor_table.proofs.set_table.queue.place_before.Goals as goal
-
-pub returns-then-queue-eq0 : goal.returns-then-queue-eq0
-returns-then-queue-eq0 g c =
-    let q = c.args.queue in
-    found_first (slots_in c.args.slots.now) _ c.args.frame c.requires.rises (λ p rest is. absurd (omega (arith, c.if-queue-eq0.true, walk_length q.list.count (nexts_in c.args.slots.now) q.list.first, ap length is)))
 
 pub returns-then-frame : goal.returns-then-frame
 returns-then-frame g c =

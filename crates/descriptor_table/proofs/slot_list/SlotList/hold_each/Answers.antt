@@ -7,12 +7,8 @@ use Rattle.descriptor_table.proofs.slot_list.SlotList.hold_each.Goals as goal
 -- the place of the next name, which is there
 at : (g : _) (c : After-handle g) → (place_at (g.N.SetName.handles_of c.args.names.now) c.loop-index.index ≡ c.handle.result.place) × (c.handle.result.place < length (slots_in c.loop-index.self))
 at g c =
-    let lt = c.loop-index-test.true in
-    let few = c.requires.few in
     let read = place_read g.N.SetName g.met.N.SetName.each c.args.names.now c.loop-index.index c.index-names-index.result c.handle.result (omega arith) c.index-names-index.is c.handle.ensures in
-    let within = c.requires.within c.loop-index.index lt in
-    let long = c.loop-index.invariant.first.long in
-    (read, omega arith)
+    (read, omega (arith, read, c.requires.within c.loop-index.index c.loop-index-test.true, c.loop-index.invariant.first.long))
 
 pub set_use-requires : goal.set_use-requires
 set_use-requires g c = (at g (goal.at.set_use-requires g c).After-handle).1

@@ -31,11 +31,7 @@ returns-clause-once g c = λ t. used_all _ _ _ _ _ _ _ _ _ c.loop-index.invarian
 
 -- all names
 all : (g : _) (c : goal.After-loop-index g) → length (g.N.SetName.handles_of c.args.names.now) ≡ c.loop-index.index
-all g c =
-    let end = c.loop-index-test.false in
-    let le = c.loop-index.auto.index-end in
-    let long = handles_long g.N.SetName g.met.N.SetName.each c.args.names.now in
-    omega arith
+all g c = omega (arith, c.loop-index.auto.index-end, handles_long g.N.SetName g.met.N.SetName.each c.args.names.now)
 
 pub returns-clause-used : goal.returns-clause-used
 returns-clause-used g c = λ t. first_all _ _ _ _ _ (sym (all g c)) c.loop-index.invariant.used.first
