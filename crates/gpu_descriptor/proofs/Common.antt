@@ -57,7 +57,7 @@ pub use Rattle.gpu_descriptor.specs.Inner.RunSteps.{EndsRun, RunStep}
 pub use Rattle.gpu_descriptor.specs.Inner.Serves.{Appends, IsUnserved, ServesKey, Takes}
 pub use Rattle.gpu_descriptor.specs.Inner.SetAt.{set_at}
 pub use Rattle.gpu_descriptor.specs.Inner.Stored.{IsConsistent, books_in, bucket_of, count_flagged, flag_of, kept_in, row_of, stored_keys}
-pub use Rattle.gpu_descriptor.specs.Inner.Walk.{Adds, CountsLooks, HasTaken, IsAsked, IsRefused, IsWalked}
+pub use Rattle.gpu_descriptor.specs.Inner.Walk.{Adds, AsksNewest, CountsLooks, HasTaken, IsAsked, IsRefused, IsWalked}
 pub use Rattle.gpu_descriptor.specs.Model.Cleanup.{LosesEmpty, gone_of, left_of, pools_lost, with_pools, without_empty}
 pub use Rattle.gpu_descriptor.specs.Model.Foreign.{IsForeign, IsNamed, KeepsForeign}
 pub use Rattle.gpu_descriptor.specs.Model.FreshPools.{AreNew, AreSized, Fresh, IsFreshPrefix, IsFreshList, IsNextSize, fresh_entries, fresh_entry, fresh_portions, given_by, room_after}

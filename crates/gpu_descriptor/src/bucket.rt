@@ -10,6 +10,8 @@ mod existing;
 mod front;
 mod growth;
 mod numbers;
+pub(crate) mod open_list;
+mod open_pools;
 mod release;
 pub(crate) mod request;
 pub(crate) mod request_sink;
@@ -18,6 +20,7 @@ mod search;
 pub(crate) mod stop;
 mod trim;
 
+use crate::bucket::open_list::OpenList;
 use std::collections::VecDeque;
 
 /// A pool, and its books.
@@ -54,7 +57,7 @@ pub(crate) struct DescriptorBucket<P> {
     /// The newest pool's ordinal is its number; each older pool's is one less than that of the next
     /// newer. A pool keeps its ordinal while pools leave at the front and are added at the back, and its
     /// place follows from the ordinal.
-    pub(crate) listed: VecDeque<u64>,
+    pub(crate) listed: OpenList,
 
     /// Number of sets allocated from these pools.
     pub(crate) total: u64,
@@ -66,8 +69,8 @@ pub(crate) struct DescriptorBucket<P> {
     ghost numbered: { number_after (numbers_of pools.items) < 2 ^ 64 },
     ghost rising: { rises (numbers_of pools.items) ≡ true },
     ghost counted: { total ≡ allocated_in pools.items },
-    ghost open: { listed.items ≡ open_ordinals (first_ordinal pools.items) (free_in pools.items) },
-    ghost capacity: { length pools.items ≤ deque_capacity listed },
+    ghost open: { listed.ordinals.items ≡ open_ordinals (first_ordinal pools.items) (free_in pools.items) },
+    ghost capacity: { length pools.items ≤ deque_capacity listed.ordinals },
     ghost full: { may_have_empty ≡ false → All (λ pool. 0 < pool.allocated) pools.items },
     ghost some: { may_have_empty ≡ true → 0 < length pools.items },
 }

@@ -14,6 +14,7 @@ ghost use Rattle.gpu_descriptor.specs.Model.Books.{key_eq, rises, sum_over};
 ghost use Rattle.gpu_descriptor.specs.Model.Load.{sets_out};
 
 use crate::bucket::DescriptorBucket;
+use crate::bucket::open_list::OpenList;
 use crate::bucket::request::SetRequest;
 use crate::bucket::request_sink::RequestSink;
 use crate::bucket::stop::Stop;
@@ -188,7 +189,7 @@ impl<P: Drop> KeyTable<P> {
             id: self.next_id,
             first: 0,
             pools: VecDeque::new(request.alloc),
-            listed: VecDeque::new(request.alloc),
+            listed: OpenList::new(request.alloc),
             total: 0,
             may_have_empty: false,
         };

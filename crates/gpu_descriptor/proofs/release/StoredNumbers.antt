@@ -1,6 +1,6 @@
 -- The numbers of the pools that a bucket stores are those of its books.
 -- For `take`, `release_sets`, `destroy_empty` and its parts. items are the pools of the code, listed is its list of open ones.
-use Rattle.gpu_descriptor.proofs.Common.{◌⊎◌, inl, inr, Bool, filter, cases_Bool, ◌+◌, ◌≤◌, false, nat_lt, drop, and_parts, list_all, lt-ltb, first_ordinal, free_in, number_after, open_ordinals, ◌≡◌, ℕ, zero, suc, ◌<◌, true, List, [], ◌∷◌, length, map, get_or, slice_get, slice_set, Some, refl, sym, common_steps}
+use Rattle.gpu_descriptor.proofs.Common.{◌⊎◌, inl, inr, Bool, filter, cases_Bool, ◌+◌, ◌≤◌, nat_lt, drop, and_parts, list_all, first_ordinal, free_in, number_after, open_ordinals, ◌≡◌, ℕ, zero, suc, ◌<◌, true, List, [], ◌∷◌, length, map, get_or, slice_get, slice_set, Some, refl, sym, common_steps}
 use Rattle.gpu_descriptor.proofs.Common.{ap, ◌∙◌, arith, length-map, slice_get_within, slice_get-map, slice_get_read, option_map, Entry, entry_at, rises, numbers_of, DescriptorPool, entry_of}
 use Rattle.gpu_descriptor.proofs.table.Exact.{bucket}
 use Rattle.gpu_descriptor.proofs.lists.Numbers.{below_next, entry_at-found, entry_at-named, few_numbers, number_of}
@@ -49,17 +49,17 @@ module _ {P : Type 0} where
 
   -- the list loses its first ordinal if the pool was open, and else stays
   listed_behind : (p : DescriptorPool P) (items : List (DescriptorPool P)) (listed listed' : List ℕ) (free : ℕ) → p.available ≡ free → rises (numbers_of (p ∷ items)) ≡ true → listed ≡ open_ordinals (first_ordinal (p ∷ items)) (free_in (p ∷ items))
-      → (nat_lt 0 p.available ≡ true → listed' ≡ drop 1 listed) → (nat_lt 0 p.available ≡ false → listed' ≡ listed) → listed' ≡ open_ordinals (first_ordinal items) (free_in items)
+      → (0 < p.available → listed' ≡ drop 1 listed) → (p.available ≡ 0 → listed' ≡ listed) → listed' ≡ open_ordinals (first_ordinal items) (free_in items)
   listed_behind p items listed listed' zero is h was popped stays =
-      stays (ap (nat_lt 0) is) ∙ was ∙ ap (λ n. open_ordinals (first_ordinal (p ∷ items)) (n ∷ free_in items)) is ∙ open_behind p items h
+      stays is ∙ was ∙ ap (λ n. open_ordinals (first_ordinal (p ∷ items)) (n ∷ free_in items)) is ∙ open_behind p items h
   listed_behind p items listed listed' (suc n) is h was popped stays =
-      popped (lt-ltb 0 p.available (omega arith)) ∙ ap (drop 1) (was ∙ ap (λ n. open_ordinals (first_ordinal (p ∷ items)) (n ∷ free_in items)) is) ∙ open_behind p items h
+      popped (omega arith) ∙ ap (drop 1) (was ∙ ap (λ n. open_ordinals (first_ordinal (p ∷ items)) (n ∷ free_in items)) is) ∙ open_behind p items h
 
   pub popped_open : (p : DescriptorPool P) (items news : List (DescriptorPool P)) (listed listed' : List ℕ) → 0 < length items → p ≡ get_or items 0 p → news ≡ drop 1 items → rises (numbers_of items) ≡ true → listed ≡ open_ordinals (first_ordinal items) (free_in items)
-      → (nat_lt 0 p.available ≡ true → listed' ≡ drop 1 listed) → (nat_lt 0 p.available ≡ false → listed' ≡ listed) → listed' ≡ open_ordinals (first_ordinal news) (free_in news)
+      → (0 < p.available → listed' ≡ drop 1 listed) → (p.available ≡ 0 → listed' ≡ listed) → listed' ≡ open_ordinals (first_ordinal news) (free_in news)
   popped_open p [] news listed listed' some is rest h was popped stays = absurd (omega arith)
   popped_open p (x ∷ items) news listed listed' some is rest h was popped stays =
-      rw rest (listed_behind x items listed listed' x.available refl h was (λ t. popped (ap (λ (q : DescriptorPool P). nat_lt 0 q.available) is ∙ t)) (λ f. stays (ap (λ (q : DescriptorPool P). nat_lt 0 q.available) is ∙ f)))
+      rw rest (listed_behind x items listed listed' x.available refl h was (λ t. popped (let same = ap (λ (q : DescriptorPool P). q.available) is in omega arith)) (λ f. stays (ap (λ (q : DescriptorPool P). q.available) is ∙ f)))
 
   -- the numbers still rise, and the next one is no greater
   pub popped_numbers : (items news : List (DescriptorPool P)) → news ≡ drop 1 items → rises (numbers_of items) ≡ true → (number_after (numbers_of news) ≤ number_after (numbers_of items)) × (rises (numbers_of news) ≡ true)

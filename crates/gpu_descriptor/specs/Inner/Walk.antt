@@ -1,11 +1,14 @@
 -- How a request walks over a key's pools, in terms of the books.
-use Rattle.std.specs.Prelude.{if◌then◌else◌, ◌≡◌, ℕ, ◌+◌, ◌-◌, ◌&&◌, ◌⊎◌, Bool, true, false, nat_lt, min, List, [], length, Option, None}
+use Rattle.std.specs.Prelude.{if◌then◌else◌, ◌≡◌, ℕ, ◌+◌, ◌-◌, ◌<◌, ◌&&◌, ◌⊎◌, Bool, true, false, nat_lt, min, List, [], length, slice_get, slice_set, Option, None, Some}
 use Rattle.gpu_descriptor_types.specs.Ledger.{Ledger, Pool, live_sets, on_pool, no_rise}
+use Rattle.gpu_descriptor.specs.declared.bucket.DescriptorBucket.{DescriptorBucket}
+use Rattle.gpu_descriptor.specs.declared.bucket.DescriptorPool.{DescriptorPool}
 use Rattle.gpu_descriptor.specs.declared.bucket.stop.Stop.{Stop}
 use Rattle.gpu_descriptor.specs.Model.Books.{Key, Entry, Bucket, numbers_of, rises}
 use Rattle.gpu_descriptor.specs.Model.Agreement.{Item, count_of, live_at}
 use Rattle.gpu_descriptor.specs.Model.Shares.{rest}
 use Rattle.gpu_descriptor.specs.Inner.Buckets.{AreBookedIn}
+use Rattle.gpu_descriptor.specs.Inner.OpenOrdinals.{free_in}
 use Rattle.gpu_descriptor.specs.Model.Release.{are_named}
 use Rattle.gpu_descriptor.specs.Model.Grants.{Grant, IsGrantOf, items_in, bucket_with, ledger_with, pool_with}
 use Rattle.gpu_descriptor.specs.Model.Outcomes.{risen, grant_rise, stop_rise}
@@ -13,6 +16,21 @@ use Rattle.gpu_descriptor.specs.Model.Outcomes.{risen, grant_rise, stop_rise}
 -- looks rise by the number of pools that were asked
 abbrev pub CountsLooks : ℕ → ℕ → Ledger → Ledger → Type 0
 CountsLooks old new before after = new + before.counters.asked ≡ old + after.counters.asked
+
+-- the newest pool with known free places is in its place what it was or what it is now, and besides only the total may differ
+pub record AsksNewest {P : Type 0} (old new : DescriptorBucket P) : Type 0 where
+  pub place : ℕ
+  pub was : DescriptorPool P
+  pub is : DescriptorPool P
+  pub at : slice_get old.pools.items place ≡ Some was
+  pub has_free : 0 < was.available
+  -- no newer pool has some
+  pub newer : (i n : ℕ) → place < i → slice_get (free_in old.pools.items) i ≡ Some n → n ≡ 0
+  pub pools : new.pools.items ≡ slice_set old.pools.items place is
+  pub number : is.number ≡ was.number
+  pub capacity : is.capacity ≡ was.capacity
+  pub id : new.id ≡ old.id
+  pub flag : new.may_have_empty ≡ old.may_have_empty
 
 -- a pool was asked for the sets still needed, or for as many as it has; or skipped, if it has no places or none is needed
 pub record IsAsked (k : Key) (wanted : ℕ) (names : List ℕ) (old new : Entry) (before after : Ledger) : Type 0 where

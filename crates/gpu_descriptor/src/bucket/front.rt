@@ -1,6 +1,5 @@
 //! The front of a bucket: its oldest pools, which are destroyed when they have no sets.
-ghost use Rattle.std.specs.Prelude.{◌≡◌, ◌+◌, ◌<◌, ◌^◌, drop, false, true};
-ghost use Rattle.std.specs.VecDeque.{deque_capacity};
+ghost use Rattle.std.specs.Prelude.{◌≡◌, ◌+◌, ◌<◌, ◌^◌};
 ghost use Rattle.gpu_descriptor.specs.Model.Books.{Key};
 ghost use Rattle.gpu_descriptor.specs.Inner.Buckets.{AreBookedIn, bucket_but_front, ledger_but_front};
 ghost use Rattle.gpu_descriptor.specs.Inner.KeyOf.{key_of};
@@ -10,19 +9,6 @@ ghost use Rattle.gpu_descriptor.specs.Model.Load.{pools_load};
 use crate::bucket::{DescriptorBucket, first_ordinal_of};
 use crate::key::BucketKey;
 use gpu_descriptor_types::DescriptorDevice;
-use std::collections::VecDeque;
-
-/// Takes the first ordinal out if the test holds.
-#[inline]
-fn pop_if(listed: &mut VecDeque<u64>, is_listed: bool)
-    ensures popped { is_listed ≡ true → listed.new.items ≡ drop 1 listed.old.items }
-    ensures stays { is_listed ≡ false → listed.new.items ≡ listed.old.items }
-    ensures capacity { deque_capacity listed.new ≡ deque_capacity listed.old }
-{
-    if is_listed {
-        let _ordinal = listed.pop_front();
-    }
-}
 
 impl<P> DescriptorBucket<P> {
     /// Destroys the pools without sets at the front, except the last `keep` pools. The limit has room
@@ -49,7 +35,7 @@ impl<P> DescriptorBucket<P> {
     {
         while self.pools.len() > keep && self.pools[0].allocated == 0 {
             let front = self.pools.pop_front().unwrap();
-            pop_if(&mut self.listed, front.available > 0);
+            self.listed.remove_oldest(front.available);
             self.first = first_ordinal_of(&self.pools);
             self.may_have_empty = (keep > 0) | !self.pools.is_empty();
             *room += key.marked_descriptors_of_pool(front.capacity);

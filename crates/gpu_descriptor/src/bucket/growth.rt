@@ -174,14 +174,10 @@ impl<P> DescriptorBucket<P> {
         ensures total { self.new.total ≡ self.old.total }
         ensures capacity { OnOk result (length self.new.pools.items < deque_capacity self.new.pools) }
         ensures listed { OnOk result (length self.new.pools.items
-            < deque_capacity self.new.listed) }
+            < deque_capacity self.new.listed.ordinals) }
     {
         self.pools.reserve(1)?;
-
-        // The list has capacity for all pools, listed or not: a release and a trim list pools without an
-        // allocation.
-        let missing = self.pools.len() + 1 - self.listed.len();
-        self.listed.reserve(missing)
+        self.listed.reserve_for(self.pools.len() + 1)
     }
 
     /// Appends a new pool, counts its sets, and lists it if it has free places.
@@ -191,18 +187,14 @@ impl<P> DescriptorBucket<P> {
         requires some { 0 < pool.allocated }
         requires bound { self.old.total + pool.allocated < 2 ^ 64 }
         requires capacity { length self.old.pools.items < deque_capacity self.old.pools }
-        requires listed { length self.old.pools.items < deque_capacity self.old.listed }
+        requires listed { length self.old.pools.items < deque_capacity self.old.listed.ordinals }
         ensures pools { self.new.pools.items ≡ self.old.pools.items ++ pool ∷ [] }
         ensures id_stays { self.new.id ≡ self.old.id }
         ensures flag_stays { self.new.may_have_empty ≡ self.old.may_have_empty }
         ensures total { self.new.total ≡ self.old.total + pool.allocated }
     {
-        let ordinal = pool.number;
-        let is_open = pool.available > 0;
         self.total += u64::from(pool.allocated);
+        self.listed.push(pool.number, pool.available);
         self.pools.push_back_reserved(pool);
-        if is_open {
-            self.listed.push_back_reserved(ordinal);
-        }
     }
 }

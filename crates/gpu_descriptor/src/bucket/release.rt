@@ -13,7 +13,7 @@ ghost use Rattle.gpu_descriptor.specs.Model.Load.{pools_load};
 
 use crate::bucket::DescriptorBucket;
 use crate::bucket::run::Run;
-use crate::bucket::search::{enter_new, search_pools};
+use crate::bucket::search::search_pools;
 use crate::set::DescriptorSet;
 use gpu_descriptor_types::{DescriptorDevice, Tally};
 
@@ -80,7 +80,7 @@ impl<P> DescriptorBucket<P> {
         let ordinal = self.first_ordinal() + place as u64;
         let mut ahead = Some(first);
         let pool = &mut self.pools[place];
-        let was_closed = pool.available == 0;
+        let was_free = pool.available;
         let mut run = Run {
             source: sets,
             ahead: &mut ahead,
@@ -94,7 +94,7 @@ impl<P> DescriptorBucket<P> {
         pool.available += count;
         note_pool(&mut self.may_have_empty, with_empty, pool.allocated == 0);
         self.total -= u64::from(count);
-        enter_new(&mut self.listed, was_closed, ordinal, comparisons);
+        self.listed.reopen(ordinal, was_free, comparisons);
         ahead
     }
 

@@ -12,6 +12,8 @@ ghost use Rattle.gpu_descriptor.specs.Inner.Stored.{bucket_of};
 ghost use Rattle.gpu_descriptor.specs.Model.Books.{number_after, numbers_of};
 ghost use Rattle.gpu_descriptor.specs.Model.Load.{pools_load};
 
+use crate::bucket::existing::take_from_existing;
+use crate::bucket::open_pools::OpenPools;
 use crate::bucket::request_sink::RequestSink;
 use crate::bucket::stop::Stop;
 use crate::bucket::{DescriptorBucket, would_exceed_64_bits};
@@ -95,8 +97,10 @@ impl<P: Drop> DescriptorBucket<P> {
         ensures looks { CountsLooks budget.old.looks.count budget.new.looks.count
             (D.ledger device.old) (D.ledger device.new) }
     {
-        self.take_from_existing(device, request, &mut budget.looks, sink)
-            .map_err(Stop::ExistingPoolWithoutMemory)?;
+        let mut open_pools = OpenPools::new(self, &mut budget.looks);
+        take_from_existing(device, &mut open_pools, request, sink).map_err(
+            Stop::ExistingPoolWithoutMemory,
+        )?;
         if sink.left == 0 {
             return Ok(());
         }

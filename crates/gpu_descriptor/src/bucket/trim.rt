@@ -80,7 +80,7 @@ impl<P> DescriptorBucket<P> {
             ≡ room.old + pools_load (key_of key.now) self.old.pools.items }
     {
         destroy_without_sets(&mut self.pools, device, key, room);
-        relist(&mut self.listed, &self.pools);
+        self.listed.relist(&self.pools);
         self.first = first_ordinal_of(&self.pools);
         self.may_have_empty = false;
     }
@@ -123,24 +123,6 @@ fn destroy_without_sets<L, P, S, D: DescriptorDevice<L, P, S>>(
         } else {
             *room += key.marked_descriptors_of_pool(pool.capacity);
             device.destroy_descriptor_pool(pool.pool);
-        }
-    }
-}
-
-/// Lists the pools with known free places again.
-fn relist<P>(listed: &mut VecDeque<u64>, pools: &VecDeque<DescriptorPool<P>>)
-    requires rising { rises (numbers_of pools.now.items) ≡ true }
-    requires numbered { number_after (numbers_of pools.now.items) < 2 ^ 64 }
-    requires capacity { length pools.now.items ≤ deque_capacity listed.old }
-    ensures listed { listed.new.items ≡ open_ordinals (first_ordinal pools.now.items)
-        (free_in pools.now.items) }
-    ensures capacity { deque_capacity listed.new ≡ deque_capacity listed.old }
-{
-    listed.clear();
-    let first = first_ordinal_of(pools);
-    for place in 0..pools.len() {
-        if pools[place].available > 0 {
-            listed.push_back_reserved(first + place as u64);
         }
     }
 }

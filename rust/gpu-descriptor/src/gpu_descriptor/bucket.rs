@@ -5,6 +5,8 @@ mod existing;
 mod front;
 mod growth;
 mod numbers;
+pub(crate) mod open_list;
+mod open_pools;
 mod release;
 pub(crate) mod request;
 pub(crate) mod request_sink;
@@ -13,6 +15,7 @@ mod search;
 pub(crate) mod stop;
 mod trim;
 
+use crate::gpu_descriptor::bucket::open_list::OpenList;
 use crate::kit::collections::VecDeque;
 
 /// A pool, and its books.
@@ -49,7 +52,7 @@ pub(crate) struct DescriptorBucket<P> {
     /// The newest pool's ordinal is its number; each older pool's is one less than that of the next
     /// newer. A pool keeps its ordinal while pools leave at the front and are added at the back, and its
     /// place follows from the ordinal.
-    pub(crate) listed: VecDeque<u64>,
+    pub(crate) listed: OpenList,
 
     /// Number of sets allocated from these pools.
     pub(crate) total: u64,

@@ -3,6 +3,7 @@
 //! place is checked before it is used.
 
 use crate::gpu_descriptor::bucket::DescriptorBucket;
+use crate::gpu_descriptor::bucket::open_list::OpenList;
 use crate::gpu_descriptor::bucket::request::SetRequest;
 use crate::gpu_descriptor::bucket::request_sink::RequestSink;
 use crate::gpu_descriptor::bucket::stop::Stop;
@@ -147,7 +148,7 @@ impl<P> KeyTable<P> {
             id: self.next_id,
             first: 0,
             pools: VecDeque::new(request.alloc),
-            listed: VecDeque::new(request.alloc),
+            listed: OpenList::new(request.alloc),
             total: 0,
             may_have_empty: false,
         };

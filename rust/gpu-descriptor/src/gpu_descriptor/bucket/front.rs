@@ -4,16 +4,6 @@
 use crate::gpu_descriptor::bucket::{DescriptorBucket, first_ordinal_of};
 use crate::gpu_descriptor::key::BucketKey;
 use crate::gpu_descriptor_types::DescriptorDevice;
-use crate::kit::collections::VecDeque;
-
-/// Takes the first ordinal out if the test holds.
-#[inline]
-fn pop_if(listed: &mut VecDeque<u64>, is_listed: bool)
-{
-    if is_listed {
-        let _ordinal = listed.pop_front();
-    }
-}
 
 impl<P> DescriptorBucket<P> {
     /// Destroys the pools without sets at the front, except the last `keep` pools. The limit has room
@@ -29,7 +19,7 @@ impl<P> DescriptorBucket<P> {
     {
         while self.pools.len() > keep && self.pools[0].allocated == 0 {
             let front = self.pools.pop_front().unwrap();
-            pop_if(&mut self.listed, front.available > 0);
+            self.listed.remove_oldest(front.available);
             self.first = first_ordinal_of(&self.pools);
             self.may_have_empty = (keep > 0) | !self.pools.is_empty();
             *room += key.marked_descriptors_of_pool(front.capacity);

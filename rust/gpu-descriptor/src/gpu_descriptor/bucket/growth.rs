@@ -111,22 +111,14 @@ impl<P> DescriptorBucket<P> {
     fn reserve_pool(&mut self) -> Result<(), AllocError>
     {
         self.pools.reserve(1)?;
-
-        // The list has capacity for all pools, listed or not: a release and a trim list pools without an
-        // allocation.
-        let missing = self.pools.len() + 1 - self.listed.len();
-        self.listed.reserve(missing)
+        self.listed.reserve_for(self.pools.len() + 1)
     }
 
     /// Appends a new pool, counts its sets, and lists it if it has free places.
     fn push(&mut self, pool: DescriptorPool<P>)
     {
-        let ordinal = pool.number;
-        let is_open = pool.available > 0;
         self.total += u64::from(pool.allocated);
+        self.listed.push(pool.number, pool.available);
         self.pools.push_back_reserved(pool);
-        if is_open {
-            self.listed.push_back_reserved(ordinal);
-        }
     }
 }

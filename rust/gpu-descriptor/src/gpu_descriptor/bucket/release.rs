@@ -3,7 +3,7 @@
 
 use crate::gpu_descriptor::bucket::DescriptorBucket;
 use crate::gpu_descriptor::bucket::run::Run;
-use crate::gpu_descriptor::bucket::search::{enter_new, search_pools};
+use crate::gpu_descriptor::bucket::search::search_pools;
 use crate::gpu_descriptor::set::DescriptorSet;
 use crate::gpu_descriptor_types::DescriptorDevice;
 
@@ -42,7 +42,7 @@ impl<P> DescriptorBucket<P> {
         let ordinal = self.first_ordinal() + place as u64;
         let mut ahead = Some(first);
         let pool = &mut self.pools[place];
-        let was_closed = pool.available == 0;
+        let was_free = pool.available;
         let mut run = Run {
             source: sets,
             ahead: &mut ahead,
@@ -56,7 +56,7 @@ impl<P> DescriptorBucket<P> {
         pool.available += count;
         note_pool(&mut self.may_have_empty, with_empty, pool.allocated == 0);
         self.total -= u64::from(count);
-        enter_new(&mut self.listed, was_closed, ordinal);
+        self.listed.reopen(ordinal, was_free);
         ahead
     }
 

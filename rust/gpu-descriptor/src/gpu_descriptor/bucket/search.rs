@@ -34,33 +34,3 @@ pub(crate) fn search_pools<P>(
     let mut view = Numbers::new(pools);
     place_of(&mut view, number)
 }
-
-/// Inserts an ordinal at its place. There is capacity for it.
-#[inline(never)]
-fn enter(listed: &mut VecDeque<u64>, ordinal: u64)
-{
-    let mut view = Numbers::new(listed);
-    let place = place_of(&mut view, ordinal);
-    match listed.insert(place, ordinal) {
-        Ok(()) => {}
-        Err(_) => unreachable!(),
-    }
-}
-
-/// Inserts an ordinal at its place if it is new. An empty list needs no search.
-#[inline]
-pub(crate) fn enter_new(
-    listed: &mut VecDeque<u64>,
-    is_new: bool,
-    ordinal: u64,
-)
-{
-    if !is_new {
-        return;
-    }
-    if listed.is_empty() {
-        listed.push_back_reserved(ordinal);
-        return;
-    }
-    enter(listed, ordinal);
-}

@@ -43,7 +43,7 @@ impl<P> DescriptorBucket<P> {
     )
     {
         destroy_without_sets(&mut self.pools, device, key, room);
-        relist(&mut self.listed, &self.pools);
+        self.listed.relist(&self.pools);
         self.first = first_ordinal_of(&self.pools);
         self.may_have_empty = false;
     }
@@ -76,18 +76,6 @@ fn destroy_without_sets<L, P, S, D: DescriptorDevice<L, P, S>>(
         } else {
             *room += key.marked_descriptors_of_pool(pool.capacity);
             device.destroy_descriptor_pool(pool.pool);
-        }
-    }
-}
-
-/// Lists the pools with known free places again.
-fn relist<P>(listed: &mut VecDeque<u64>, pools: &VecDeque<DescriptorPool<P>>)
-{
-    listed.clear();
-    let first = first_ordinal_of(pools);
-    for place in 0..pools.len() {
-        if pools[place].available > 0 {
-            listed.push_back_reserved(first + place as u64);
         }
     }
 }

@@ -81,7 +81,7 @@ pub invariant_of-self-clause-open : goal.invariant_of-self-clause-open
 invariant_of-self-clause-open g c =
     let f = front g (goal.at.invariant_of-self-clause-open g c).After-unwrap-front in
     let some = f.long in
-    popped_open c.unwrap-front.result c.loop-self.self.pools.items c.pop_front.new.self.items c.loop-self.self.listed.items c.pop_if.new.listed.items (omega arith) f.is c.pop_front.ensures.rest c.loop-self.self.rising c.loop-self.self.«open» c.pop_if.ensures.popped c.pop_if.ensures.stays
+    popped_open c.unwrap-front.result c.loop-self.self.pools.items c.pop_front.new.self.items c.loop-self.self.listed.ordinals.items c.remove_oldest.new.self.ordinals.items (omega arith) f.is c.pop_front.ensures.rest c.loop-self.self.rising c.loop-self.self.«open» c.remove_oldest.ensures.gone c.remove_oldest.ensures.stays
 
 pub first_ordinal_of-self-requires-clause-rising : goal.first_ordinal_of-self-requires-clause-rising
 first_ordinal_of-self-requires-clause-rising g c = (popped_numbers c.loop-self.self.pools.items c.pop_front.new.self.items c.pop_front.ensures.rest c.loop-self.self.rising).1

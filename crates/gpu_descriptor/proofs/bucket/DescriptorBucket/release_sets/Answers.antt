@@ -1,4 +1,4 @@
-use Rattle.gpu_descriptor.proofs.Common.{names_of, greatest_pool_size, ◌≡◌, ℕ, List, set, ◌+◌, ◌<◌, ◌≤◌, ◌-◌, rules, arith, sym, refl, ◌∙◌, ap, subst, length, map, slice_get, [], ◌∷◌, Some, length-set, eqb-false, eqb-true, length-map, or_parts, slice_get_read, DescriptorPool, Ledger, after_release, LiveSet, common_steps}
+use Rattle.gpu_descriptor.proofs.Common.{names_of, greatest_pool_size, ◌≡◌, ℕ, List, set, ◌+◌, ◌<◌, ◌≤◌, ◌-◌, rules, arith, sym, refl, ◌∙◌, ap, subst, length, map, slice_get, [], ◌∷◌, Some, length-set, eqb-false, length-map, or_parts, slice_get_read, DescriptorPool, Ledger, after_release, LiveSet, common_steps}
 use Rattle.gpu_descriptor.proofs.Common.{DescriptorSet, live_in, Entry, IsNonDecreasing, AreBookedIn, IsTakenAt, free_in, entry_less, bucket_of, entry_of, first_ordinal, number_after, rises, slice_set}
 use Rattle.std.proofs.lemmas.List.Elements.{All-set}
 use Rattle.gpu_descriptor.proofs.cleanup.Rotation.{Has}
@@ -135,10 +135,10 @@ invariant_of-self g c =
       «open» =
           rw first
           (listed_again (first_ordinal c.args.self.now.pools.items) c.args.self.now.pools.items
-          c.args.self.now.listed.items c.args.self.now.«open» c.place_of_pool-place.result
+          c.args.self.now.listed.ordinals.items c.args.self.now.«open» c.place_of_pool-place.result
           c.index_mut-pool.result.now new (read g r) ordinal
           (ap (λ (n : ℕ). n + c.place_of_pool-place.result) c.first_ordinal.ensures.first) some
-          c.enter_new.new.listed.items c.enter_new.ensures.entered c.enter_new.ensures.stays);
+          c.reopen.new.self.ordinals.items c.reopen.ensures.entered c.reopen.ensures.stays);
       capacity = (let long = length-set c.args.self.now.pools.items c.place_of_pool-place.result new in omega arith);
       full = λ off. (
           let parts = or_parts c.args.self.now.may_have_empty _ (sym c.note_pool.ensures.flag ∙ off) in
@@ -147,13 +147,13 @@ invariant_of-self g c =
       some = λ on. (let within = (is_at g r).within in omega arith);
     }
 
-pub enter_new-requires-clause-rising : goal.enter_new-requires-clause-rising
-enter_new-requires-clause-rising g c = subst IsNonDecreasing (sym c.args.self.now.«open») (open_rises (first_ordinal c.args.self.now.pools.items) (free_in c.args.self.now.pools.items))
+pub reopen-requires-clause-rising : goal.reopen-requires-clause-rising
+reopen-requires-clause-rising g c = subst IsNonDecreasing (sym c.args.self.now.«open») (open_rises (first_ordinal c.args.self.now.pools.items) (free_in c.args.self.now.pools.items))
 
-pub enter_new-requires-clause-fits : goal.enter_new-requires-clause-fits
-enter_new-requires-clause-fits g c = λ full.
-    let r = (goal.at.enter_new-requires-clause-fits g c).After-index_mut-pool in
-    let fewer = fewer_listed (first_ordinal c.args.self.now.pools.items) c.args.self.now.pools.items c.args.self.now.listed.items c.args.self.now.«open» c.place_of_pool-place.result c.index_mut-pool.result.now c.index_mut-pool.result.now (read g r) (eqb-true _ _ full) in
+pub reopen-requires-clause-fits : goal.reopen-requires-clause-fits
+reopen-requires-clause-fits g c = λ full.
+    let r = (goal.at.reopen-requires-clause-fits g c).After-index_mut-pool in
+    let fewer = fewer_listed (first_ordinal c.args.self.now.pools.items) c.args.self.now.pools.items c.args.self.now.listed.ordinals.items c.args.self.now.«open» c.place_of_pool-place.result c.index_mut-pool.result.now c.index_mut-pool.result.now (read g r) full in
     omega arith
 
 pub returns-clause-ran : goal.returns-clause-ran

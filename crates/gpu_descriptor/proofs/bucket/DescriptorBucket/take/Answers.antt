@@ -1,4 +1,4 @@
-use Rattle.gpu_descriptor.proofs.Common.{◌≡◌, ℕ, ◌+◌, ◌≤◌, ◌++◌, List, length, map, sym, ap, ◌∙◌, arith, Result, Ok, OnOk, true, [], ◌∷◌, Err, length-map, map-append, DescriptorPool, DescriptorSet, Item, Entry, Key}
+use Rattle.gpu_descriptor.proofs.Common.{rules, ◌≡◌, ℕ, ◌+◌, ◌≤◌, ◌++◌, List, length, map, sym, ap, ◌∙◌, arith, Result, Ok, OnOk, true, [], ◌∷◌, Err, length-map, map-append, DescriptorPool, DescriptorSet, Item, Entry, Key}
 use Rattle.gpu_descriptor.proofs.Common.{key_of, fresh_entry, items_at, items_of, entry_of, number_after, numbers_of, pools_load}
 use Rattle.std.specs.Result.{is_ok}
 use mathlib.Core.Bool.{true≢false}
@@ -16,22 +16,32 @@ on_ok : {T E X : Type 0} (r : Result T E) → OnOk r X → is_ok r ≡ true → 
 on_ok (Ok done) known is = known
 on_ok (Err e) known is = absurd (true≢false (sym is))
 
+-- a bucket that was lent to the walk is what the walk left
+pub returns-in_err-map_err-clause-taken : goal.returns-in_err-map_err-clause-taken
+returns-in_err-map_err-clause-taken g c = (let same : c.self-1.given.0 ≡ c.take_from_existing.new.pools.bucket.now = search rules in rw (same, sym c.new-open_pools.ensures.bucket) (search rules))
+
+pub returns-then-sink-eq0-clause-taken : goal.returns-then-sink-eq0-clause-taken
+returns-then-sink-eq0-clause-taken g c = (let same : c.self-1.given.0 ≡ c.take_from_existing.new.pools.bucket.now = search rules in rw (same, sym c.new-open_pools.ensures.bucket) (search rules))
+
 pub loop-sink-init : goal.loop-sink-init
 loop-sink-init g c =
     let name = g.D.DescriptorDevice.meaning.pool_name in
-    let known = on_ok c.take_from_existing.result c.take_from_existing.ensures.walked (sym c.in_ok-map_err.ensures.variant) in
-    let total = c.take_from_existing.ensures.total in
-    record {
-      appends = c.take_from_existing.ensures.appends;
+    let walk = rw (c.new-open_pools.ensures.bucket, c.new-open_pools.ensures.looks) at c.take_from_existing.ensures in
+    let known = on_ok c.take_from_existing.result walk.walked (sym c.in_ok-map_err.ensures.variant) in
+    let total = walk.total in
+    let all = walk.appends.rest in
+    let same : c.self-1.given.0 ≡ c.take_from_existing.new.pools.bucket.now = search rules in
+    rw same (record {
+      appends = walk.appends;
       total = total;
-      id_stays = c.take_from_existing.ensures.id_stays;
-      flag_stays = c.take_from_existing.ensures.flag_stays;
-      numbers = (let same = ap number_after c.take_from_existing.ensures.numbers_stay in let all = c.take_from_existing.ensures.appends.rest in omega arith);
-      growing = grow_start known c.take_from_existing.ensures.id_stays (let out = allocated_entries name c.args.self.now.pools.items in let counted = c.args.self.now.counted in let all = c.take_from_existing.ensures.appends.rest in omega arith);
-      load = ap (λ n. c.args.budget.now.room + n) c.take_from_existing.ensures.load;
+      id_stays = walk.id_stays;
+      flag_stays = walk.flag_stays;
+      numbers = (let same = ap number_after walk.numbers_stay in omega arith);
+      growing = grow_start known walk.id_stays (let out = allocated_entries name c.args.self.now.pools.items in let counted = c.args.self.now.counted in omega arith);
+      load = ap (λ n. c.args.budget.now.room + n) walk.load;
       bound = λ i. c.args.budget.now.bound;
-      looks = c.take_from_existing.ensures.looks;
-    }
+      looks = walk.looks;
+    })
 
 pub returns-clause-taken : goal.returns-clause-taken
 returns-clause-taken g c = (let inv = c.loop-sink.invariant in grow_end inv.growing (let end : c.loop-sink.sink.left ≡ 0 = omega arith in end) inv.id_stays tt)

@@ -1,7 +1,7 @@
 use Rattle.gpu_descriptor.proofs.Common.{◌≡◌, ℕ, ◌+◌, ◌-◌, ◌<◌, ◌≤◌, List, [], length, map, refl, sym, ap, ◌∙◌, subst, arith, min, length-map, append-nil, if◌then◌else◌, Ledger, after_alloc, live_sets, pool_refusals, Entry, Key, key_of, entry_of, IsBookedIn, IsAsked, All, All-nil, IsOfLayout}
 use Rattle.gpu_descriptor.proofs.request.PlacesFree.{can_give}
 use Rattle.gpu_descriptor.proofs.request.Asks.{same_entry, given, refuses}
-use Rattle.gpu_descriptor.proofs.bucket.existing.ask.Goals as goal
+use Rattle.gpu_descriptor.proofs.bucket.open_pools.ask.Goals as goal
 
 pub alloc_descriptor_sets-requires : goal.alloc_descriptor_sets-requires
 alloc_descriptor_sets-requires g c =
