@@ -331,12 +331,14 @@ class allocator {
         return status;
     }
 
-    /* Adds a layout, which replaces the old one of `to`. If it fails, `to` is as before. */
+    /* Adds a layout, which replaces the old one of `to`, unless `to` has it already. If it fails, `to` is as
+     * before. */
     [[nodiscard]] gd_status add_layout(uint64_t handle, const uint32_t (&counts)[GD_KINDS], uint32_t flags,
                                        layout &to) noexcept {
         gd_layout raw{};
         const gd_status status = gd_add_layout(raw_, handle, counts, flags, &raw);
-        if (status == GD_OK)
+        const bool has_it = to.raw().owner == raw.owner && to.raw().index == raw.index;
+        if (status == GD_OK && !has_it)
             to = layout(raw_, raw);
         return status;
     }

@@ -291,6 +291,26 @@ void own_layouts() {
     CHECK(it.allocator.destroy() == GD_OK && late.remove() == GD_BAD_ALLOCATOR && late);
 }
 
+// A layout that its owner has already stays, though it is added again.
+void add_a_layout_twice() {
+    room it;
+    const uint32_t kinds[GD_KINDS] = {2}, others[GD_KINDS] = {3};
+    gd::layout layout;
+    gd::set made;
+    CHECK(it.allocator.add_layout(8, kinds, 0, layout) == GD_OK && it.allocator.allocate(layout, made) == GD_OK);
+    const gd_layout raw = layout;
+    CHECK(it.allocator.add_layout(8, kinds, 0, layout) == GD_OK && layout.raw().index == raw.index);
+    CHECK(it.allocator.allocate(layout, made) == GD_OK);
+    // Another layout, and the same place of another allocator, replace it.
+    CHECK(it.allocator.add_layout(8, others, 0, layout) == GD_OK && layout.raw().index != raw.index);
+    CHECK(it.allocator.allocate(raw, made) == GD_BAD_LAYOUT && it.allocator.allocate(layout, made) == GD_OK);
+    gd::layout first(it.allocator.raw(), it.layout);
+    room second;
+    CHECK(first.raw().index == second.layout.index);
+    CHECK(second.allocator.add_layout(7, {1}, 0, first) == GD_OK && first.raw().owner == second.layout.owner);
+    CHECK(it.allocator.allocate(it.layout, made) == GD_BAD_LAYOUT);
+}
+
 // The functions of an allocator under their short names.
 void call_by_short_names() {
     room it;
@@ -453,6 +473,7 @@ int main(int words, char **) {
     draw_frames();
     grow_frames();
     own_layouts();
+    add_a_layout_twice();
     own_caches();
     call_by_short_names();
     own_allocators();
