@@ -200,11 +200,12 @@ impl<L, P, S, D: DescriptorDevice<L, P, S>> SetManager<L, P, S, D> {
     }
 
     /// Adds a layout, and returns its handle. The layout stays yours: destroy it after `remove_layout` or
-    /// `shutdown`. Memory of a removed layout is used again once all its sets are freed.
+    /// `shutdown`. Memory of a removed layout is used again once all its sets are freed, and that
+    /// can't fail.
     ///
     /// # Errors
     ///
-    /// An allocation failed. The error has the layout.
+    /// An allocation failed. The error has the layout. Empty pools of its [key](crate) may be destroyed.
     ///
     /// # Safety
     ///
@@ -216,18 +217,22 @@ impl<L, P, S, D: DescriptorDevice<L, P, S>> SetManager<L, P, S, D> {
     ) -> Result<LayoutHandle, AddLayoutError<L>> {
         let generations = &mut self.generations;
         self.inner.call(|inner| {
-            if generations.try_reserve(1).is_err() {
-                return Err(AddLayoutError(layout));
-            }
             let added = inner.add_layout(layout);
             let handle = added.map_err(|failed| AddLayoutError(failed.value))?;
             let SetHandle {
                 place, generation, ..
             } = handle.slot;
-            match generations.get_mut(place as usize) {
-                Some(last) => *last = generation,
-                None => generations.push(generation),
+            let places = place as usize + 1;
+            let missing = places.saturating_sub(generations.len());
+            // Only now, since the place of a removed layout needs no memory.
+            if generations.try_reserve(missing).is_err() {
+                let Ok(back) = inner.remove_layout(handle) else {
+                    unreachable!("it was just added")
+                };
+                return Err(AddLayoutError(back));
             }
+            generations.resize(generations.len() + missing, 0);
+            generations[place as usize] = generation;
             Ok(handle)
         })
     }

@@ -7,7 +7,7 @@ mod refuses;
 use gpu::{Gpu, Set, layout};
 use gpu_descriptor::manager::{LayoutHandle, RequestError, SetHandle, SetManager};
 use gpu_descriptor::{DescriptorSetLayoutCreateFlags, DescriptorTotalCount, SetLayout};
-use refuses::{bytes, calls, counted};
+use refuses::{bytes, calls, counted, refuse, with_refused};
 use std::collections::HashSet;
 
 type Sets<'a> = SetManager<u32, usize, Set, &'a Gpu>;
@@ -129,6 +129,49 @@ fn memory_follows_the_peak_of_layouts() {
     (0..10_000).for_each(|round| turn(round * 7 % 30));
     assert_eq!((calls(), bytes()), before);
     shutdown(&gpu, it);
+}
+
+/// However many layouts there are: the lists that have one place for each may be full.
+#[test]
+fn the_number_of_a_removed_layout_takes_no_memory() {
+    let gpu = Gpu::new();
+    let mut it = SetManager::new(&gpu, 10_000);
+    for number in 0..40 {
+        refuse(u64::MAX);
+        let last = add(&mut it, number % 3);
+        assert_eq!(remove(&mut it, last), Ok(number % 3));
+        // SAFETY: the device knows no layouts.
+        let (added, calls) = with_refused(0, || unsafe { it.add_layout(layout(1)) });
+        assert_eq!((it.layout(added.unwrap()).unwrap().layout, calls), (1, 0));
+    }
+    shutdown(&gpu, it);
+}
+
+/// Whichever call for memory is refused, the set manager has the layouts that it had, and adds it at the next try.
+#[test]
+fn a_layout_that_is_refused_memory_comes_back() {
+    for refused in 0.. {
+        let gpu = Gpu::new();
+        let mut it = SetManager::new(&gpu, 10_000);
+        let mut refusals = 0;
+        refuse(refused);
+        for number in 0..40 {
+            // SAFETY: the device knows no layouts.
+            if let Err(error) = counted(|| unsafe { it.add_layout(layout(number % 3)) }) {
+                assert_eq!(error.into_inner().layout, number % 3);
+                assert_eq!(it.statistics().layouts, u64::from(number));
+                refusals += 1;
+                add(&mut it, number % 3);
+            }
+            assert_eq!(it.statistics().layouts, u64::from(number) + 1);
+        }
+        assert_eq!(refusals, u32::from(refused < calls()));
+        shutdown(&gpu, it);
+        if refusals == 0 {
+            assert!(refused > 10);
+            break;
+        }
+    }
 }
 
 /// Only then, since another layout with its memory would keep them.
