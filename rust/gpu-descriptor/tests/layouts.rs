@@ -161,7 +161,7 @@ fn a_layout_that_is_refused_memory_comes_back() {
                 assert_eq!(error.into_inner().layout, number % 3);
                 assert_eq!(it.statistics().layouts, u64::from(number));
                 refusals += 1;
-                add(&mut it, number % 3);
+                let _ = add(&mut it, number % 3);
             }
             assert_eq!(it.statistics().layouts, u64::from(number) + 1);
         }
