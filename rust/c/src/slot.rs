@@ -2,7 +2,7 @@
 //!
 //! A slot is never freed. When its allocator is destroyed, a later one reuses it. So a call through a
 //! `gd_allocator` whose allocator is destroyed reads a slot that exists, and sees by the id that it has
-//! another allocator or none. No id is given twice.
+//! another allocator or none. No id is given twice, not even by two copies of the library in one process.
 
 use crate::abi::GdStatus;
 use crate::allocator::Allocator;
@@ -54,7 +54,8 @@ struct FreeSlots {
 // SAFETY: `first` is used only by the thread that holds `lock`.
 unsafe impl Sync for FreeSlots {}
 
-static LAST_ID: AtomicU64 = AtomicU64::new(0);
+/// How many allocators this copy of the library created.
+static CREATED: AtomicU64 = AtomicU64::new(0);
 
 /// The free slots in which calls wait for their turn, and those in which they don't.
 static WAITING: FreeSlots = FreeSlots::new();
@@ -104,6 +105,13 @@ fn new_slot(waits: bool) -> Result<&'static Slot, AllocError> {
     Ok(&slots.leak()[0])
 }
 
+/// The id of the next allocator. They begin at the address of a variable of this copy of the library: copies that
+/// are loaded at once have it on two pages, so that 2^28 ids of one don't reach those of another.
+fn next_id() -> u64 {
+    let first = ((&raw const CREATED).addr() as u64) << 16;
+    first.wrapping_add(CREATED.fetch_add(1, Ordering::Relaxed) + 1)
+}
+
 /// Creates an allocator, and gives it its id and its lock. `waits` says whether its calls wait for those of
 /// other threads.
 pub fn create(
@@ -115,7 +123,7 @@ pub fn create(
         Some(slot) => slot,
         None => new_slot(waits)?,
     };
-    let id = LAST_ID.fetch_add(1, Ordering::Relaxed) + 1;
+    let id = next_id();
     // A call through an older id may just be checking that id.
     let _held = slot.lock.spin();
     // SAFETY: the lock is held.

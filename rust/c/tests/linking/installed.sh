@@ -233,6 +233,17 @@ inside_in_cpp() {
   [ "$(cat "$room/shown")" = plugin ]
 }
 
+# two_copies ARCHIVE: two shared objects have it inside, and one program loads both.
+two_copies() {
+  local name
+  for name in first second; do
+    gcc "${of_c[@]}" -fPIC -shared -DCOPY -I"$include" rust/c/tests/linking/two_copies.c "$1" \
+      -Wl,--exclude-libs,libgpu_descriptor_c.a -o "$room/$name.so" || return
+  done
+  gcc "${of_c[@]}" -I"$include" rust/c/tests/linking/two_copies.c -o "$room/two_copies" &&
+    "$room/two_copies" "$room/first.so" "$room/second.so"
+}
+
 try_linking() {
   local prefix=$room/$1 of=$2
   step "name of the shared library$of" versioned "$prefix"
@@ -242,6 +253,7 @@ try_linking() {
   step "a header with larger sets$of" meets "$prefix" 30 's/^    uint64_t owner;$/    uint64_t owner, later;/'
   step "a header with one more function of the device$of" meets "$prefix" 30 's/^    gd_free_sets_fn free_sets;/&void (*later)(void);/'
   step "beside another library of Rust's$of" beside_another "$prefix"
+  step "two copies in one process$of" two_copies "$prefix/lib/libgpu_descriptor_c.a"
   step "inside of a shared object$of" inside_another "$prefix"
   step "inside of one in C++$of" inside_in_cpp "$prefix"
   step "the shared library is loaded and unloaded$of" "$room/loaded" "$prefix/lib/libgpu_descriptor_c.so" gd_version
