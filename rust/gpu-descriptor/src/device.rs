@@ -5,6 +5,9 @@ use crate::{
     CreatePoolError, DescriptorPoolCreateFlags, DescriptorTotalCount, DeviceAllocationError,
 };
 use core::marker::PhantomData;
+use std_alloc::boxed::Box;
+use std_alloc::rc::Rc;
+use std_alloc::sync::Arc;
 
 /// A device that can create pools and allocate sets from them.
 ///
@@ -61,42 +64,48 @@ pub trait DescriptorDevice<L, P, S> {
     unsafe fn dealloc_descriptor_sets(&self, pool: &mut P, sets: impl Iterator<Item = S>);
 }
 
-/// A borrowed device is a device.
-impl<L, P, S, D: DescriptorDevice<L, P, S>> DescriptorDevice<L, P, S> for &D {
-    #[inline]
-    unsafe fn create_descriptor_pool(
-        &self,
-        descriptor_count: &DescriptorTotalCount,
-        max_sets: u32,
-        flags: DescriptorPoolCreateFlags,
-    ) -> Result<P, CreatePoolError> {
-        // SAFETY: here and below, the caller keeps the same conditions.
-        unsafe { (**self).create_descriptor_pool(descriptor_count, max_sets, flags) }
-    }
+/// A device behind a pointer is a device.
+macro_rules! of_pointers {
+    ($($pointer:ty),*) => {$(
+        impl<L, P, S, D: DescriptorDevice<L, P, S>> DescriptorDevice<L, P, S> for $pointer {
+            #[inline]
+            unsafe fn create_descriptor_pool(
+                &self,
+                descriptor_count: &DescriptorTotalCount,
+                max_sets: u32,
+                flags: DescriptorPoolCreateFlags,
+            ) -> Result<P, CreatePoolError> {
+                // SAFETY: here and below, the caller keeps the same conditions.
+                unsafe { (**self).create_descriptor_pool(descriptor_count, max_sets, flags) }
+            }
 
-    #[inline]
-    unsafe fn destroy_descriptor_pool(&self, pool: P) {
-        unsafe { (**self).destroy_descriptor_pool(pool) }
-    }
+            #[inline]
+            unsafe fn destroy_descriptor_pool(&self, pool: P) {
+                unsafe { (**self).destroy_descriptor_pool(pool) }
+            }
 
-    #[inline]
-    unsafe fn alloc_descriptor_sets<'a>(
-        &self,
-        pool: &mut P,
-        layouts: impl ExactSizeIterator<Item = &'a L>,
-        sets: &mut impl Extend<S>,
-    ) -> Result<(), DeviceAllocationError>
-    where
-        L: 'a,
-    {
-        unsafe { (**self).alloc_descriptor_sets(pool, layouts, sets) }
-    }
+            #[inline]
+            unsafe fn alloc_descriptor_sets<'a>(
+                &self,
+                pool: &mut P,
+                layouts: impl ExactSizeIterator<Item = &'a L>,
+                sets: &mut impl Extend<S>,
+            ) -> Result<(), DeviceAllocationError>
+            where
+                L: 'a,
+            {
+                unsafe { (**self).alloc_descriptor_sets(pool, layouts, sets) }
+            }
 
-    #[inline]
-    unsafe fn dealloc_descriptor_sets(&self, pool: &mut P, sets: impl Iterator<Item = S>) {
-        unsafe { (**self).dealloc_descriptor_sets(pool, sets) }
-    }
+            #[inline]
+            unsafe fn dealloc_descriptor_sets(&self, pool: &mut P, sets: impl Iterator<Item = S>) {
+                unsafe { (**self).dealloc_descriptor_sets(pool, sets) }
+            }
+        }
+    )*};
 }
+
+of_pointers!(&D, Box<D>, Rc<D>, Arc<D>);
 
 /// A device as the proved sources call it. Their proofs rest on the contract of that trait. The adapter
 /// ensures what the contract requires of numbers of sets, and the rest is up to the device.

@@ -107,7 +107,8 @@ pub use crate::descriptor_manager::{
 /// The number of set managers that were made. Each takes one, which marks its handles.
 static MANAGERS: AtomicU32 = AtomicU32::new(0);
 
-/// Allocates descriptor sets from a device that it owns, and reuses freed ones. `&D` is a device too.
+/// Allocates descriptor sets from a device that it owns, and reuses freed ones. `&D`, `Box<D>`, `Rc<D>` and
+/// `Arc<D>` are devices too.
 ///
 /// `begin_frame` opens a frame, `allocate_for_frame` allocates its sets, and `end_frame` ends it. Its sets
 /// are freed by the `frame_done` of this frame or a later one; several frames may be in flight. A set from
@@ -637,3 +638,9 @@ impl<L> fmt::Display for AddLayoutError<L> {
 }
 
 impl<L> Error for AddLayoutError<L> {}
+
+impl From<AllocationError> for RequestError {
+    fn from(error: AllocationError) -> Self {
+        RequestError::Allocation(error)
+    }
+}

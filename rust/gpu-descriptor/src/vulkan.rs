@@ -44,3 +44,8 @@ pub use handles::{
     DescriptorPool, DescriptorSet, DescriptorSetLayout, DescriptorType, DeviceHandle,
 };
 pub use variable::{VariableDevice, VariableLayout};
+
+/// A [`SetManager`](crate::manager::SetManager) over a [`Device`], or over a pointer to one: with
+/// `SetManager<Arc<Device>>` several share a device.
+pub type SetManager<D = Device> =
+    crate::manager::SetManager<DescriptorSetLayout, DescriptorPool, DescriptorSet, D>;

@@ -780,7 +780,7 @@ fn frames_out_of_turn() {
     assert_eq!(stage.live(), 1);
     let texts = [
         RequestError::NoFrame.to_string(),
-        RequestError::Allocation(OutOfHostMemory).to_string(),
+        RequestError::from(OutOfHostMemory).to_string(),
         BeginFrameError::FrameOpen.to_string(),
         FreeError::NoSet.to_string(),
     ];

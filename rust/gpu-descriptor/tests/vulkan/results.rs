@@ -2,8 +2,9 @@
 
 use crate::driver::{Call, Driver, layouts};
 use gpu_descriptor::manager::{RequestError, SetManager};
-use gpu_descriptor::vulkan::{DescriptorPool, DescriptorSet, DescriptorSetLayout};
+use gpu_descriptor::vulkan::{DescriptorPool, DescriptorSet, DescriptorSetLayout, Device};
 use gpu_descriptor::*;
+use std::sync::Arc;
 
 /// Results by their numbers, and what they become: of a new pool, of sets, and of a request whose
 /// new pool refuses sets so.
@@ -114,11 +115,13 @@ fn request(driver: &Driver) -> AllocationError {
     answer.unwrap_err()
 }
 
-/// Each type over a device that is lost sees it, and frees what it has; the device stays lost.
+/// Each type over a device that is lost sees it, and frees what it has; the device stays lost. It is shared, so
+/// that the program sees it too.
 #[test]
 fn a_lost_device() {
     let driver = Driver::new();
-    let mut manager = SetManager::new(driver.device(), 0);
+    let shared = Arc::new(driver.device());
+    let mut manager: vulkan::SetManager<Arc<Device>> = SetManager::new(Arc::clone(&shared), 0);
     let layout = unsafe { manager.add_layout(layout()) }.unwrap();
     let held = manager.allocate(layout).unwrap();
     assert!(!manager.device().is_lost());
@@ -131,10 +134,13 @@ fn a_lost_device() {
 
     driver.allocate_result.set(0);
     driver.create_result.set(0);
-    unsafe { manager.free(&[held]) }.unwrap();
+    // It stays lost, whatever later calls return.
+    let last = manager.allocate(layout).unwrap();
+    assert!(manager.device().is_lost());
+    unsafe { manager.free(&[held, last]) }.unwrap();
     // SAFETY: no set is in use.
-    let device = unsafe { manager.shutdown() };
-    assert!(device.is_lost());
+    unsafe { manager.shutdown() };
+    assert!(shared.is_lost());
     let calls = driver.take_calls();
     let is_destroyed = |it: &Call| matches!(it, Call::Destroy(..));
     assert!(calls.last().is_some_and(is_destroyed));
