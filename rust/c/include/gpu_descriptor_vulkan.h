@@ -368,8 +368,10 @@ GD_INLINE gd_status gdv_create(const gdv_device *vulkan, uint32_t limit, gd_allo
     return gdv_create_with_flags(vulkan, limit, 0, allocator);
 }
 
-/* The index of the binding that has a variable count; UINT32_MAX if none has. */
+/* The index of the binding that has a variable count; UINT32_MAX if none has, or without a layout. */
 GD_INLINE uint32_t gdv_variable_binding(const VkDescriptorSetLayoutCreateInfo *info) {
+    if (!info)
+        return UINT32_MAX;
     const VkBaseInStructure *next = GDV_CAST(const VkBaseInStructure *, info->pNext);
     for (; next; next = next->pNext) {
         if (next->sType != VK_STRUCTURE_TYPE_DESCRIPTOR_SET_LAYOUT_BINDING_FLAGS_CREATE_INFO)
@@ -387,6 +389,8 @@ GD_INLINE uint32_t gdv_variable_binding(const VkDescriptorSetLayoutCreateInfo *i
  * binding. */
 GD_INLINE gd_status gdv_count_bindings(const VkDescriptorSetLayoutCreateInfo *info, uint32_t variable_binding,
                                        uint32_t variable_count, uint32_t counts[GD_KINDS], uint32_t *flags) {
+    if (!info || !counts || !flags)
+        return GD_NULL_POINTER;
     memset(counts, 0, GD_KINDS * sizeof *counts);
     *flags = info->flags & VK_DESCRIPTOR_SET_LAYOUT_CREATE_UPDATE_AFTER_BIND_POOL_BIT;
     if (*flags != info->flags)
@@ -412,14 +416,16 @@ GD_INLINE gd_status gdv_count_bindings(const VkDescriptorSetLayoutCreateInfo *in
  * A sampler with YCbCr conversion may need several descriptors (VkSamplerYcbcrConversionImageFormatProperties):
  * then add to the counts and call gd_add_layout.
  *
- * GD_BAD_COUNTS for a type that has no kind, a count above 32 bits, a binding with a variable count, and flags
- * other than update-after-bind: push descriptors, descriptor buffers, host-only layouts. A mutable type has no
- * kind, since its sets need pools with descriptors of VK_DESCRIPTOR_TYPE_MUTABLE_EXT, whatever counts of other
- * types they have.
+ * GD_NULL_POINTER; GD_BAD_COUNTS for a type that has no kind, a count above 32 bits, a binding with a variable
+ * count, and flags other than update-after-bind: push descriptors, descriptor buffers, host-only layouts. A
+ * mutable type has no kind, since its sets need pools with descriptors of VK_DESCRIPTOR_TYPE_MUTABLE_EXT,
+ * whatever counts of other types they have.
  */
 GD_INLINE gd_status gdv_count(const VkDescriptorSetLayoutCreateInfo *info,
                                   uint32_t counts[GD_KINDS], uint32_t *flags) {
     gd_status status = gdv_count_bindings(info, UINT32_MAX, 0, counts, flags);
+    if (status != GD_OK)
+        return status;
     return gdv_variable_binding(info) == UINT32_MAX ? status : GDV_CAST(gd_status, GD_BAD_COUNTS);
 }
 
@@ -432,9 +438,11 @@ GD_INLINE gd_status gdv_count_variable(const VkDescriptorSetLayoutCreateInfo *in
                                        uint32_t counts[GD_KINDS], uint32_t *flags) {
     const uint32_t binding = gdv_variable_binding(info);
     gd_status status = gdv_count_bindings(info, binding, variable_count, counts, flags);
+    if (status != GD_OK)
+        return status;
     if (binding >= info->bindingCount || variable_count > info->pBindings[binding].descriptorCount)
         return GD_BAD_COUNTS;
-    return status;
+    return GD_OK;
 }
 
 /* gdv_count and gd_add_layout, with the statuses of both. */
@@ -443,8 +451,6 @@ GD_INLINE gd_status gdv_add_layout(gd_allocator allocator, VkDescriptorSetLayout
                                        gd_layout *known) {
     uint32_t counts[GD_KINDS];
     uint32_t flags = 0;
-    if (!info)
-        return GD_NULL_POINTER;
     gd_status status = gdv_count(info, counts, &flags);
     if (status != GD_OK)
         return status;
@@ -461,8 +467,6 @@ GD_INLINE gd_status gdv_add_variable_layout(gd_allocator allocator, VkDescriptor
                                             gd_layout *known) {
     uint32_t counts[GD_KINDS];
     uint32_t flags = 0;
-    if (!info)
-        return GD_NULL_POINTER;
     gd_status status = gdv_count_variable(info, variable_count, counts, &flags);
     if (status != GD_OK)
         return status;

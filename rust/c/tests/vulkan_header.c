@@ -278,15 +278,38 @@ static void count_variable(void) {
     CHECK(gdv_count_variable(&images, MAX_IMAGES, counts, &flags) == GD_OK);
     CHECK(gdv_count_variable(&images, MAX_IMAGES + 1, counts, &flags) == GD_BAD_COUNTS);
     CHECK(gdv_count_variable(&fixed, 1000, counts, &flags) == GD_BAD_COUNTS);
+    // The variable binding need not be the last of the array.
+    const VkDescriptorSetLayoutBinding turned[2] = {image_bindings[1], image_bindings[0]};
+    const VkDescriptorBindingFlags turned_flags[2] = {image_flags[1], image_flags[0]};
+    VkDescriptorSetLayoutBindingFlagsCreateInfo flagged = images_flagged;
+    flagged.pBindingFlags = turned_flags;
+    fixed = images;
+    fixed.pNext = &flagged;
+    fixed.pBindings = turned;
+    CHECK(gdv_count_variable(&fixed, 1000, counts, &flags) == GD_OK);
+    CHECK(counts[GD_UNIFORM_BUFFER] == 1 && counts[GD_SAMPLED_IMAGE] == 1000);
     fixed = images;
     fixed.flags = 4;
     CHECK(gdv_count_variable(&fixed, 1000, counts, &flags) == GD_BAD_COUNTS);
     const gd_allocator none = {NULL, 0};
     const VkDescriptorSetLayout handle = GDV_HANDLE(VkDescriptorSetLayout, LAYOUT);
     CHECK(gdv_add_layout(none, handle, &images, &layout) == GD_BAD_COUNTS && layout.index == 77);
-    CHECK(gdv_add_variable_layout(none, handle, NULL, 5, &layout) == GD_NULL_POINTER);
     CHECK(gdv_add_variable_layout(none, handle, &images, MAX_IMAGES + 1, &layout) == GD_BAD_COUNTS);
     CHECK(gdv_add_variable_layout(none, handle, &images, 5, &layout) == GD_BAD_ALLOCATOR && layout.index == 77);
+}
+
+static void count_without_pointers(void) {
+    uint32_t counts[GD_KINDS], flags = 0;
+    gd_layout layout = {77, 77};
+    const gd_allocator none = {NULL, 0};
+    const VkDescriptorSetLayout handle = GDV_HANDLE(VkDescriptorSetLayout, LAYOUT);
+    CHECK(gdv_count(NULL, counts, &flags) == GD_NULL_POINTER && gdv_count(&images, NULL, &flags) == GD_NULL_POINTER);
+    CHECK(gdv_count(&images, counts, NULL) == GD_NULL_POINTER);
+    CHECK(gdv_count_variable(NULL, 5, counts, &flags) == GD_NULL_POINTER);
+    CHECK(gdv_count_variable(&images, 5, NULL, &flags) == GD_NULL_POINTER);
+    CHECK(gdv_count_variable(&images, 5, counts, NULL) == GD_NULL_POINTER);
+    CHECK(gdv_add_layout(none, handle, NULL, &layout) == GD_NULL_POINTER && layout.index == 77);
+    CHECK(gdv_add_variable_layout(none, handle, NULL, 5, &layout) == GD_NULL_POINTER && layout.index == 77);
 }
 
 // Sets of each count have it, in pools of their own, and are kept for their count alone.
@@ -297,8 +320,10 @@ static void allocate_variable(void) {
     gd_set sets[70], one;
     const VkDescriptorSetLayout handle = GDV_HANDLE(VkDescriptorSetLayout, LAYOUT + 7);
     const uint32_t counts[GD_KINDS] = {[GD_UNIFORM_BUFFER] = 1, [GD_SAMPLED_IMAGE] = 100};
+    gd_statistics numbers;
     result_count = used = 0;
     CHECK(gdv_create(&vulkan, 500000, &allocator) == GD_OK);
+    CHECK(gd_get_statistics(allocator, &numbers) == GD_OK && numbers.update_after_bind_limit == 500000);
     CHECK(gdv_add_variable_layout(allocator, handle, &images, 100, &small) == GD_OK);
     CHECK(gdv_add_variable_layout(allocator, handle, &images, 60000, &large) == GD_OK && large.index != small.index);
     CHECK(gdv_add_variable_layout(allocator, handle, &images, 100, &again) == GD_OK && again.index == small.index);
@@ -324,6 +349,7 @@ static void allocate_variable(void) {
 int main(void) {
     check_mappings();
     count_variable();
+    count_without_pointers();
     allocate_variable();
     round_blocks();
     refuse_flags();
