@@ -291,8 +291,7 @@ impl<L: Drop, P: Drop, S: Drop, D: DescriptorDevice<L, P, S>> SetManager<L, P, S
         self.is_open
     }
 
-    /// How many sets are held, wait for a frame, and are kept. It visits the layouts, and the frames
-    /// that sets wait for.
+    /// How many sets are held, wait for a frame, and are kept. It visits the layouts.
     pub fn counts(&self) -> Counts
         ensures held { result.held ≡ count holds (slots_of self.now) }
         ensures waiting { result.waiting ≡ count waits (slots_of self.now) }

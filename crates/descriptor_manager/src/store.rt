@@ -186,7 +186,7 @@ impl<L: Drop, P: Drop, S: Drop, D: DescriptorDevice<L, P, S>> Store<L, P, S, D> 
         self.table.kept_total()
     }
 
-    /// How many sets wait for a frame. It visits these frames.
+    /// How many sets wait for a frame. It reads one number.
     pub(crate) fn waiting(&self) -> u64
         ensures { result ≡ count waits (slots_in self.now) }
     {

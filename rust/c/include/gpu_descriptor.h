@@ -485,8 +485,8 @@ gd_status gd_trim(gd_allocator allocator);
 
 /*
  * gd_outstanding: how many sets are live, those that wait for a frame included, kept ones not. gd_waiting: how
- * many of these wait. gd_pool_count: how many pools exist. The time is linear in the number of frames that sets
- * wait for, and of layouts.
+ * many of these wait. gd_pool_count: how many pools exist, in constant time. The time of the others is linear in
+ * the peak of the number of layouts, with the removed ones that have live sets.
  *
  * GD_NULL_POINTER, GD_BAD_ALLOCATOR, GD_BUSY, GD_INTERNAL_ERROR.
  */

@@ -508,7 +508,7 @@ impl<L, P, S, D: DescriptorDevice<L, P, S>> SetManager<L, P, S, D> {
     }
 
     /// How many sets are held, wait for a frame (those of the open frame included), and are kept. The time
-    /// is linear in the number of layouts, and of frames that sets wait for.
+    /// is linear in the peak of the number of layouts, with the removed ones that have live sets.
     #[must_use]
     pub fn counts(&self) -> Counts {
         self.inner.get().counts()

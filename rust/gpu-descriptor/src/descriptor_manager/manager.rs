@@ -179,8 +179,7 @@ impl<L, P, S, D: DescriptorDevice<L, P, S>> SetManager<L, P, S, D> {
         self.is_open
     }
 
-    /// How many sets are held, wait for a frame, and are kept. It visits the layouts, and the frames
-    /// that sets wait for.
+    /// How many sets are held, wait for a frame, and are kept. It visits the layouts.
     pub fn counts(&self) -> Counts
     {
         Counts {

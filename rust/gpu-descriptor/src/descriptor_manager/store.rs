@@ -117,7 +117,7 @@ impl<L, P, S, D: DescriptorDevice<L, P, S>> Store<L, P, S, D> {
         self.table.kept_total()
     }
 
-    /// How many sets wait for a frame. It visits these frames.
+    /// How many sets wait for a frame. It reads one number.
     pub(crate) fn waiting(&self) -> u64
     {
         self.table.waiting_total()

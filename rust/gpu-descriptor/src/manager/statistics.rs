@@ -20,9 +20,8 @@ impl<L, P, S, D: DescriptorDevice<L, P, S>> SetManager<L, P, S, D> {
         handles.filter(|handle| self.layout(*handle).is_some())
     }
 
-    /// The numbers of sets, layouts and pools, and the peaks of those of pools. The time is linear in the
-    /// number of frames that sets wait for, and in the peak of the number of layouts, with the removed ones
-    /// that have live sets. It allocates no memory.
+    /// The numbers of sets, layouts and pools, and the peaks of those of pools. The time is that of
+    /// [`counts`](Self::counts). It allocates no memory.
     #[must_use]
     pub fn statistics(&self) -> Statistics {
         let inner = self.inner.get();
