@@ -26,6 +26,8 @@
  * If a set of a gd::sets or gd::frame was freed elsewhere, the call that ends the owner frees the others and returns
  * GD_BAD_SET; then the owner is empty. After any other failure it has all that weren't freed.
  *
+ * What can't be ended now stays: create() returns why, put() nullptr, and after `a = std::move(b)` the old one is b's.
+ *
  * A destructor has no status. It waits for other threads' calls. If calls don't wait (GD_EXTERNALLY_SYNCHRONIZED, or a
  * library without std) and one of another thread runs, the sets stay live until gd_free_all, the layout stays, and the
  * allocator isn't destroyed: so hold the lock that orders your calls while owners end. The same happens in a function
@@ -90,6 +92,11 @@ template <class Call> gd_status free_all_of(const gd_set *raw, uint32_t &count, 
     return status;
 }
 
+/* Whether what a call should have ended is still there. */
+inline bool is_left(gd_status status) noexcept {
+    return status == GD_BUSY || status == GD_OUTSTANDING || status == GD_INTERNAL_ERROR;
+}
+
 /* The frame after which an owner frees its sets: the current one, or the one of used_in. */
 class last_use {
   public:
@@ -121,9 +128,7 @@ class set : public last_use {
     set &operator=(set &&other) noexcept {
         if (this != &other) {
             (void)reset();
-            last_use::operator=(other);
-            allocator_ = other.allocator_;
-            raw_ = other.release();
+            swap(other);
         }
         return *this;
     }
@@ -159,6 +164,12 @@ class set : public last_use {
     gd_set release() noexcept { return std::exchange(raw_, gd_set{}); }
 
   private:
+    void swap(set &other) noexcept {
+        std::swap(static_cast<last_use &>(*this), static_cast<last_use &>(other));
+        std::swap(allocator_, other.allocator_);
+        std::swap(raw_, other.raw_);
+    }
+
     gd_status end(gd_status status) noexcept {
         if (status == GD_OK)
             (void)release();
@@ -175,11 +186,11 @@ class sets : public last_use {
     sets() = default;
     sets(const sets &) = delete;
     sets &operator=(const sets &) = delete;
-    sets(sets &&other) noexcept { take(other); }
+    sets(sets &&other) noexcept { swap(other); }
     sets &operator=(sets &&other) noexcept {
         if (this != &other) {
             (void)reset();
-            take(other);
+            swap(other);
         }
         return *this;
     }
@@ -223,11 +234,11 @@ class sets : public last_use {
     }
 
   private:
-    void take(sets &other) noexcept {
-        last_use::operator=(std::exchange(static_cast<last_use &>(other), last_use()));
-        allocator_ = other.allocator_;
-        raw_ = std::move(other.raw_);
-        count_ = std::exchange(other.count_, 0u);
+    void swap(sets &other) noexcept {
+        std::swap(static_cast<last_use &>(*this), static_cast<last_use &>(other));
+        std::swap(allocator_, other.allocator_);
+        std::swap(raw_, other.raw_);
+        std::swap(count_, other.count_);
     }
 
     template <class Call> gd_status finish(Call call) noexcept {
@@ -259,8 +270,8 @@ class layout {
     layout &operator=(layout &&other) noexcept {
         if (this != &other) {
             (void)remove();
-            allocator_ = other.allocator_;
-            raw_ = other.release();
+            std::swap(allocator_, other.allocator_);
+            std::swap(raw_, other.raw_);
         }
         return *this;
     }
@@ -270,7 +281,8 @@ class layout {
     operator gd_layout() const noexcept { return raw_; }
     explicit operator bool() const noexcept { return raw_.owner != 0; }
 
-    /* Removes the layout that is here, and returns where a function may write one that it adds to this allocator. */
+    /* Removes the layout that is here, and returns where a function may write one that it adds to this allocator;
+     * nullptr if the old one can't be removed now. */
     inline gd_layout *put(const allocator &of) noexcept;
 
     /* gd_remove_layout: sets of it stay valid until they are freed. It keeps the layout if that fails. */
@@ -302,7 +314,7 @@ class allocator {
     allocator &operator=(allocator &&other) noexcept {
         if (this != &other) {
             (void)destroy();
-            raw_ = other.release();
+            std::swap(raw_, other.raw_);
         }
         return *this;
     }
@@ -312,14 +324,15 @@ class allocator {
     gd_allocator raw() const noexcept { return raw_; }
     explicit operator bool() const noexcept { return raw_.id != 0; }
 
-    /* Destroys the allocator that is here, and returns where a function may write one that it creates. */
-    gd_allocator *put() noexcept {
-        (void)destroy();
-        return &raw_;
-    }
+    /* Destroys the allocator that is here, and returns where a function may write one that it creates; nullptr if
+     * the old one can't be destroyed now. */
+    gd_allocator *put() noexcept { return is_left(destroy()) ? nullptr : &raw_; }
 
+    /* Destroys the allocator that is here, and creates one. If the old one can't be destroyed now, it stays, and the
+     * status is that of destroy(). */
     [[nodiscard]] gd_status create(const gd_device &device, uint32_t limit, uint32_t flags = 0) noexcept {
-        return gd_create_with_flags(&device, limit, flags, put());
+        const gd_status status = destroy();
+        return is_left(status) ? status : gd_create_with_flags(&device, limit, flags, &raw_);
     }
 
     /* Allocates a set, which replaces the old one of `to`. If it fails, `to` is as before. */
@@ -384,7 +397,8 @@ class allocator {
 };
 
 inline gd_layout *layout::put(const allocator &of) noexcept {
-    (void)remove();
+    if (is_left(remove()))
+        return nullptr;
     allocator_ = of.raw();
     return &raw_;
 }
@@ -399,11 +413,17 @@ class frame {
     frame(const allocator &of, uint64_t number) noexcept : frame(of.raw(), number) {}
     frame(const frame &) = delete;
     frame &operator=(const frame &) = delete;
-    frame(frame &&other) noexcept { take(other); }
+    frame(frame &&other) noexcept : frame(other.allocator_, other.number_) { swap_sets(other); }
     frame &operator=(frame &&other) noexcept {
         if (this != &other) {
             (void)end();
-            take(other);
+            swap_sets(other);
+            std::swap(allocator_, other.allocator_);
+            std::swap(number_, other.number_);
+            if (other.count_ == 0) { // it stays the frame that it is
+                other.allocator_ = allocator_;
+                other.number_ = number_;
+            }
         }
         return *this;
     }
@@ -466,12 +486,10 @@ class frame {
         return true;
     }
 
-    void take(frame &other) noexcept {
-        allocator_ = other.allocator_;
-        number_ = other.number_;
-        raw_ = std::move(other.raw_);
-        count_ = std::exchange(other.count_, 0u);
-        room_ = std::exchange(other.room_, 0u);
+    void swap_sets(frame &other) noexcept {
+        std::swap(raw_, other.raw_);
+        std::swap(count_, other.count_);
+        std::swap(room_, other.room_);
     }
 
     gd_allocator allocator_{};

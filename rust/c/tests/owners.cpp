@@ -3,6 +3,7 @@
 
 #include <cstdio>
 #include <cstdlib>
+#include <functional>
 #include <thread>
 #include <vector>
 
@@ -19,9 +20,7 @@ namespace {
 struct world {
     uint64_t handles = uint64_t{1} << 40, pools = 0, sets = 0, calls_of_free = 0;
     bool is_full = false, gives_zero = false;
-    gd::allocator *allocator = nullptr; // in whose next call these are ended
-    gd::set *back = nullptr;
-    gd::frame *back_frame = nullptr;
+    std::function<void()> inside; // is called in the next call for sets, once
 };
 
 world &world_of(void *user) {
@@ -42,15 +41,8 @@ void destroy_pool(void *user, uint64_t) noexcept {
 
 gd_status allocate_sets(void *user, uint64_t, uint32_t count, const uint64_t *, uint64_t *sets) noexcept {
     world &it = world_of(user);
-    if (it.back != nullptr) {
-        CHECK(it.back->free() == GD_BUSY && *it.back);
-        CHECK(it.back->free_after(1) == GD_BUSY && *it.back);
-        CHECK(it.back->reset() == GD_BUSY && *it.back && it.allocator->begin_frame(1) == GD_BUSY);
-        it.back = nullptr;
-        const uint32_t drawn = it.back_frame->size();
-        CHECK(drawn > 0 && it.back_frame->begin(99) == GD_BUSY && it.back_frame->size() == drawn);
-        CHECK(it.back_frame->number() != 99);
-    }
+    if (const std::function<void()> call = std::exchange(it.inside, nullptr))
+        call();
     if (it.is_full)
         return GD_OUT_OF_DEVICE_MEMORY;
     it.sets += count;
@@ -192,14 +184,71 @@ void fail_sets() {
     gd::frame frame(it.allocator.raw(), 3);
     gd_set drawn;
     CHECK(frame.allocate(it.layout, drawn) == GD_OK);
-    it.device.allocator = &it.allocator;
-    it.device.back = &inside;
-    it.device.back_frame = &frame;
+    it.device.inside = [&] {
+        CHECK(inside.free() == GD_BUSY && inside && inside.free_after(1) == GD_BUSY && inside);
+        CHECK(inside.reset() == GD_BUSY && inside && it.allocator.begin_frame(1) == GD_BUSY);
+        CHECK(frame.begin(99) == GD_BUSY && frame.size() == 1 && frame.number() == 3);
+    };
     (void)it.one().release();
-    CHECK(it.device.back == nullptr && inside && frame.size() == 1 && frame.end() == GD_OK && it.waiting() == 1);
+    CHECK(!it.device.inside && inside && frame.size() == 1 && frame.end() == GD_OK && it.waiting() == 1);
     CHECK(gd_free_all(it.allocator.raw()) == GD_OK);
     CHECK(inside.free_after(3) == GD_BAD_SET && inside && inside.free() == GD_BAD_SET && inside);
     CHECK(old.free() == GD_BAD_SET && old);
+}
+
+// Moves an empty owner over one that can't end now, and back.
+template <class Owner> void move_over(Owner &busy) {
+    Owner other;
+    busy = std::move(other);
+    busy = std::move(other); // NOLINT: it has what couldn't end
+}
+
+// In a call of the allocator none of its owners ends, and none loses what it has.
+void keep_what_is_busy() {
+    room it;
+    world second;
+    const uint32_t kinds[GD_KINDS] = {2};
+    gd::layout layout;
+    gd::set made = it.one();
+    gd::sets many;
+    gd::frame frame(it.allocator, 3);
+    gd_set drawn;
+    CHECK(it.allocator.add_layout(8, kinds, 0, layout) == GD_OK && it.allocator.allocate(it.layout, 5, many) == GD_OK);
+    CHECK(frame.allocate(it.layout, drawn) == GD_OK);
+    many.used_in(7);
+    made.used_in(8);
+    it.device.inside = [&] {
+        CHECK(it.allocator.create(device_of(second), 0) == GD_BUSY && it.allocator.put() == nullptr);
+        CHECK(layout.put(it.allocator) == nullptr && layout);
+        CHECK(gd_add_layout(it.allocator.raw(), 9, kinds, 0, layout.put(it.allocator)) == GD_NULL_POINTER);
+        move_over(it.allocator);
+        move_over(layout);
+        move_over(made);
+        move_over(many);
+        move_over(frame);
+    };
+    (void)it.one().release();
+    CHECK(!it.device.inside && it.allocator && layout && made && many.size() == 5 && frame.size() == 1);
+    CHECK(frame.number() == 3 && frame.end() == GD_OK && layout.remove() == GD_OK);
+    CHECK(made.reset() == GD_OK && many.reset() == GD_OK && it.waiting() == 7);
+    CHECK(it.allocator.frame_done(6) == GD_OK && it.waiting() == 6 && it.allocator.frame_done(7) == GD_OK);
+    CHECK(it.waiting() == 1 && it.allocator.frame_done(8) == GD_OK && it.device.sets == 1);
+    CHECK(it.allocator.destroy() == GD_OK && it.device.pools == 0);
+}
+
+// An owner whose allocator, layout or set is gone takes another one.
+void replace_what_is_gone() {
+    room it;
+    world second;
+    const uint32_t kinds[GD_KINDS] = {2};
+    gd::layout layout;
+    CHECK(it.allocator.add_layout(8, kinds, 0, layout) == GD_OK);
+    CHECK(gd_remove_layout(it.allocator.raw(), layout) == GD_OK && layout.put(it.allocator) != nullptr);
+    CHECK(it.allocator.add_layout(8, kinds, 0, layout) == GD_OK);
+    const gd_allocator old = it.allocator.raw();
+    CHECK(gd_destroy(old) == GD_OK && it.allocator.create(device_of(second), 0) == GD_OK);
+    CHECK(it.allocator.raw().id != old.id && layout.remove() == GD_BAD_ALLOCATOR && layout.put(it.allocator) != nullptr);
+    CHECK(gd_destroy(it.allocator.raw()) == GD_OK && it.allocator.put() != nullptr);
 }
 
 // A driver may give the handle 0: it is a set nevertheless.
@@ -277,6 +326,7 @@ void own_layouts() {
         CHECK(it.allocator.allocate(raw, made) == GD_BAD_LAYOUT && it.allocator.allocate(second, made) == GD_OK);
         raw = second;
         gd::layout third(std::move(second));
+        CHECK(!second); // NOLINT: a moved owner is empty
         CHECK(gd_add_layout(it.allocator.raw(), 9, others, 0, third.put(it.allocator)) == GD_OK);
         CHECK(it.allocator.allocate(raw, made) == GD_BAD_LAYOUT && it.allocator.allocate(third, made) == GD_OK);
         raw = third;
@@ -366,8 +416,9 @@ void draw_frames() {
     CHECK(frame.allocate(it.layout, 2, drawn) == GD_OK && frame.begin(5) == GD_OK && frame.number() == 5);
     CHECK(frame.allocate(it.layout, 3, drawn) == GD_OK);
     CHECK(gd_frame_done(it.allocator.raw(), 4) == GD_OK && it.device.sets == 3 && frame.size() == 3);
-    frame = gd::frame(it.allocator, 6);
-    CHECK(it.waiting() == 3 && frame.number() == 6);
+    gd::frame later(it.allocator, 6);
+    frame = std::move(later);
+    CHECK(it.waiting() == 3 && frame.number() == 6 && later.number() == 6 && later.size() == 0); // NOLINT
     it.device.is_full = true;
     CHECK(frame.allocate(it.layout, 40, drawn) == GD_OUT_OF_DEVICE_MEMORY && frame.size() == 0);
     it.device.is_full = false;
@@ -466,6 +517,8 @@ int main(int words, char **) {
     end_after_the_current_frame();
     move_sets();
     fail_sets();
+    keep_what_is_busy();
+    replace_what_is_gone();
     own_a_handle_of_zero();
     own_batches();
     free_batches_that_were_used();
