@@ -8,7 +8,7 @@ use Rattle.gpu_descriptor.specs.Model.Foreign.{IsForeign}
 use Rattle.gpu_descriptor.specs.Caller.Others.{others_of}
 use Rattle.gpu_descriptor.specs.Caller.Sets.{items_of}
 use Rattle.gpu_descriptor.specs.Caller.States.{state_of}
-use Rattle.gpu_descriptor.specs.Caller.Values.{Allocations}
+use Rattle.gpu_descriptor.specs.Caller.Values.{Allocations, all_ids}
 use Rattle.gpu_descriptor.specs.declared.set.DescriptorSet.{DescriptorSet}
 use Rattle.gpu_descriptor.proofs.foreign.NoneLost.{nothing_at}
 use Rattle.gpu_descriptor.proofs.foreign.Others.{own_agrees, own_outstanding}
@@ -63,7 +63,7 @@ turned x y l pair = record {
 }
 
 -- an allocator without keys shares no pool
-pub none_shared : (x y : Held) (l : Ledger) (limit : ℕ) → x.allocator ≡ record { limit = limit; bound = None; table = []; looks = 0; comparisons = 0 } → AreApart (session_state x l) (session_state y l)
+pub none_shared : (x y : Held) (l : Ledger) (limit : ℕ) → x.allocator ≡ record { limit = limit; bound = None; ids = all_ids; table = []; looks = 0; comparisons = 0 } → AreApart (session_state x l) (session_state y l)
 none_shared x y l limit empty k j m n d e there at same =
     nothing_at ((session_state x l).books k) m d (ap (λ (a : Allocations RawPool). ((state_of pool_id a l).books k).pools) empty) there
 
@@ -73,7 +73,7 @@ new_ready s l new = record {
   agree = new_agrees new.allocator pool_id l;
   held = λ t.
       ap (λ (a : Allocations RawPool). outstanding (state_of pool_id a l) t) new.allocator
-      ∙ none_out (state_of pool_id (record { limit = new.limit; bound = None; table = []; looks = 0; comparisons = 0 }) l) t refl
+      ∙ none_out (state_of pool_id (record { limit = new.limit; bound = None; ids = all_ids; table = []; looks = 0; comparisons = 0 }) l) t refl
       ∙ sym (ap (λ (slots : List (Option (DescriptorSet RawSet))). count_of t (items_of set_id (held_sets slots))) new.sets);
   meant = new.meant;
 }

@@ -3,7 +3,7 @@ use Rattle.std.specs.Prelude.{◌≡◌, ◌≢◌, ℕ, All, [], slice_get, Som
 use Rattle.std.proofs.Props.{props}
 use Rattle.gpu_descriptor.proofs.callers.OneAgreement.{Agrees-prop}
 use Rattle.gpu_descriptor_types.specs.Ledger.{Ledger}
-use Rattle.gpu_descriptor.specs.Caller.Values.{without_keys}
+use Rattle.gpu_descriptor.specs.Caller.Values.{all_ids, without_keys}
 use Rattle.gpu_descriptor.specs.Model.Agreement.{State}
 use Rattle.gpu_descriptor.specs.Model.Books.{Key, Entry}
 use Rattle.gpu_descriptor.specs.Caller.SetLayouts.{IsMeant}
@@ -17,7 +17,7 @@ use Rattle.gpu_descriptor_types.specs.Side.{side}
 -- no key came, and no set is held
 pub record IsNewSession (s : SessionValue ScriptLayout RawPool RawSet) : Type 0 where
   pub limit : ℕ
-  pub allocator : s.allocator ≡ without_keys limit
+  pub allocator : s.allocator ≡ without_keys limit all_ids
   pub sets : s.sets ≡ []
   pub meant : All (IsMeant script_meaning) s.layouts
 

@@ -1,6 +1,7 @@
 pub mod Added
 pub mod Asks
 pub mod Causes
+pub mod Certain
 pub mod FreshNumbers
 pub mod Growing
 pub mod HandedOut

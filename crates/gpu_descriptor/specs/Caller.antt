@@ -1,6 +1,7 @@
 -- What public clauses say in addition to the model: the allocator's value and its state, the call, sets, layouts, frees, flags, errors, views.
 pub mod Call
 pub mod Causes
+pub mod Certain
 pub mod CleansUp
 pub mod Comparisons
 pub mod Errors

@@ -2,7 +2,7 @@
 ghost use Rattle.std.specs.Prelude.{◌≡◌, ℕ};
 ghost use Rattle.gpu_descriptor_types.specs.Ledger.{Ledger};
 ghost use Rattle.gpu_descriptor.specs.Caller.States.{Agrees};
-ghost use Rattle.gpu_descriptor.specs.Caller.Values.{without_keys};
+ghost use Rattle.gpu_descriptor.specs.Caller.Values.{all_ids, without_keys};
 
 mod allocate;
 mod allocate_for;
@@ -51,6 +51,7 @@ impl<P, S> Model for DescriptorAllocator<P, S> {
     ghost view = { λ a. record {
       limit = a.max_update_after_bind_descriptors_in_all_pools;
       bound = a.budget.bound;
+      ids = (a.table.first_id, a.table.end_id);
       table = map row_of a.table.buckets.entries;
       looks = a.budget.looks.count;
       comparisons = a.comparisons.count;
@@ -65,7 +66,8 @@ impl<P, S> Model for DescriptorAllocator<P, S> {
 impl<P, S> DescriptorAllocator<P, S> {
     /// The same as `with_ids`, with a range of all ids.
     pub fn new(alloc: Global, max_update_after_bind_descriptors_in_all_pools: u32) -> Self
-        ensures value { result ≡ without_keys max_update_after_bind_descriptors_in_all_pools }
+        ensures value { result ≡ without_keys max_update_after_bind_descriptors_in_all_pools
+            all_ids }
         ensures agree { (name : P → ℕ) (ledger : Ledger) → Agrees name result ledger }
     {
         DescriptorAllocator::with_ids(
@@ -87,7 +89,8 @@ impl<P, S> DescriptorAllocator<P, S> {
         max_update_after_bind_descriptors_in_all_pools: u32,
         ids: Range<u64>,
     ) -> Self
-        ensures value { result ≡ without_keys max_update_after_bind_descriptors_in_all_pools }
+        ensures value { result ≡ without_keys max_update_after_bind_descriptors_in_all_pools
+            (ids.start, ids.end) }
         ensures agree { (name : P → ℕ) (ledger : Ledger) → Agrees name result ledger }
     {
         DescriptorAllocator {

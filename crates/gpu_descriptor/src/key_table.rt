@@ -1,16 +1,17 @@
 //! The keys of an allocator, each with its pools, and the search for a key. The hint may be wrong: a
 //! place is checked before it is used.
 ghost use Rattle.std.specs.Prelude.{◌≡◌, ◌+◌, ◌<◌, ◌^◌, ◌++◌, ℕ, IsTrue, MatchOption, None, Some, map};
-ghost use Rattle.std.specs.Prelude.{[], ◌∷◌, slice_get, true};
-ghost use Rattle.std.specs.List.{IsDistinct, IsDistinct-prop};
+ghost use Rattle.std.specs.Prelude.{[], ◌∷◌, ◌≤◌, IsOk, false, length, nat_lt, slice_get, true};
+ghost use Rattle.std.specs.List.{IsDistinct, IsDistinct-prop, list_all};
 ghost use Rattle.std.specs.Map.{lookup};
 ghost use Rattle.gpu_descriptor.specs.Caller.SetLists.{appended};
 ghost use Rattle.gpu_descriptor.specs.Inner.Buckets.{AreBookedIn};
-ghost use Rattle.gpu_descriptor.specs.Inner.Ids.{is_of, stored_ids};
+ghost use Rattle.gpu_descriptor.specs.Inner.Ids.{is_id_of, is_of, stored_ids};
 ghost use Rattle.gpu_descriptor.specs.Inner.KeyOf.{key_of};
 ghost use Rattle.gpu_descriptor.specs.Inner.Serves.{ServesRequest};
 ghost use Rattle.gpu_descriptor.specs.Inner.Stored.{books_in, count_flagged, row_of, stored_keys};
-ghost use Rattle.gpu_descriptor.specs.Model.Books.{key_eq, rises, sum_over};
+ghost use Rattle.gpu_descriptor_types.specs.Bounds.{greatest_u64};
+ghost use Rattle.gpu_descriptor.specs.Model.Books.{key_eq, next_number, rises, sum_over};
 ghost use Rattle.gpu_descriptor.specs.Model.Load.{sets_out};
 
 use crate::bucket::DescriptorBucket;
@@ -33,6 +34,9 @@ use std::ops::Range;
 pub(crate) struct KeyTable<P> {
     pub(crate) buckets: IndexMap<BucketKey, DescriptorBucket<P>>,
 
+    /// The start of the range of ids, for contracts alone.
+    first_id: u64,
+
     /// The id of the next key. It never decreases, so no two keys ever share an id.
     pub(crate) next_id: u64,
 
@@ -45,6 +49,8 @@ pub(crate) struct KeyTable<P> {
     /// How many keys may have a pool without sets, as their buckets say.
     pub(crate) with_empty: u64,
     ghost rising: { rises (stored_ids buckets.entries ++ next_id ∷ []) ≡ true },
+    ghost begun: { nat_lt next_id first_id ≡ false },
+    ghost ranged: { list_all (is_id_of (first_id, end_id)) (stored_ids buckets.entries) ≡ true },
     ghost flagged: { with_empty ≡ count_flagged buckets.entries },
     ghost distinct: { IsDistinct key_eq (stored_keys buckets.entries) } by { IsDistinct-prop key_eq
         (stored_keys buckets.entries) },
@@ -53,10 +59,12 @@ pub(crate) struct KeyTable<P> {
 impl<P> KeyTable<P> {
     /// A table without keys, which takes its ids from this range. It allocates no memory.
     pub(crate) fn new(alloc: Global, ids: Range<u64>) -> Self
-        ensures { result.buckets.entries ≡ [] }
+        ensures entries { result.buckets.entries ≡ [] }
+        ensures ids { (result.first_id ≡ ids.start) × (result.end_id ≡ ids.end) }
     {
         KeyTable {
             buckets: IndexMap::new(alloc),
+            first_id: ids.start,
             next_id: ids.start,
             end_id: ids.end,
             last: 0,
@@ -151,6 +159,13 @@ impl<P: Drop> KeyTable<P> {
             request.now.count sink.new.left result self.old.buckets.entries
             self.new.buckets.entries budget.old budget.new (K.items sink.old.sets)
             (K.items sink.new.sets) (D.ledger device.old) (D.ledger device.new) }
+        ensures range { (self.new.first_id ≡ self.old.first_id)
+            × (self.new.end_id ≡ self.old.end_id) }
+        // With room for the sets, only an absent key needs memory before the walk.
+        ensures fits { request.now.count ≤ K.places sink.old.sets → 0 < length (books_in
+            D.meaning.pool_name (map row_of self.old.buckets.entries) (key_of request.now.key)).pools
+            → next_number (books_in D.meaning.pool_name (map row_of self.old.buckets.entries)
+            (key_of request.now.key)) + request.now.count ≤ greatest_u64 → IsOk result }
     {
         if let Some(place) = self.place_of_key(&request.key) {
             self.last = place;
@@ -178,6 +193,8 @@ impl<P: Drop> KeyTable<P> {
             request.now.count sink.new.left result self.old.buckets.entries
             self.new.buckets.entries budget.old budget.new (K.items sink.old.sets)
             (K.items sink.new.sets) (D.ledger device.old) (D.ledger device.new) }
+        ensures range { (self.new.first_id ≡ self.old.first_id)
+            × (self.new.end_id ≡ self.old.end_id) }
     {
         if self.buckets.reserve(1).is_err() {
             return Err(AllocationError::OutOfHostMemory);

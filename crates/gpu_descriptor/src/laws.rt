@@ -1,8 +1,10 @@
 //! Laws of freeing and cleaning up, over the books of an allocator and the ledger of a device, and laws
 //! of the types that their derives keep. The functions do nothing: their contracts are the laws.
 ghost use Rattle.std.specs.Prelude.{◌≡◌, ◌↔◌, ℕ, Bool, [], IsTrue, List, None, Some, false};
-ghost use Rattle.std.specs.Prelude.{slice_get, slice_index};
+ghost use Rattle.std.specs.Prelude.{IfErr, slice_get, slice_index};
 ghost use Rattle.std.specs.Prelude.{flat_map, length, sum, true, ◌++◌, ◌+◌, ◌<◌, ◌≤◌, ◌⊎◌, fold};
+ghost use Rattle.gpu_descriptor_types.specs.Bounds.{greatest_u64};
+ghost use Rattle.gpu_descriptor.specs.Caller.Certain.{free_places, refusals};
 ghost use Rattle.gpu_descriptor.specs.Caller.Comparisons.{gap_digits};
 ghost use Rattle.gpu_descriptor.specs.Caller.Flags.{layout_bits};
 ghost use Rattle.gpu_descriptor.specs.Caller.Frees.{marked_descriptors};
@@ -15,12 +17,12 @@ ghost use Rattle.gpu_descriptor.specs.Model.Agreement.{Item, item_eq, Agree, Are
 ghost use Rattle.gpu_descriptor.specs.Model.Agreement.{HasNoGaps, HasNoKeys, HasNoPools, IsAsBooked};
 ghost use Rattle.gpu_descriptor.specs.Model.Agreement.{State, count_of, outstanding};
 ghost use Rattle.gpu_descriptor.specs.Model.Books.{HasDistinctKeys, Key, key_eq, AddsUp, Bucket};
-ghost use Rattle.gpu_descriptor.specs.Model.Books.{Entry, books_of, no_pools, numbers_of, sum_over};
+ghost use Rattle.gpu_descriptor.specs.Model.Books.{Entry, books_of, next_number, no_pools, numbers_of, sum_over};
 ghost use Rattle.gpu_descriptor.specs.Model.Cleanup.{LosesEmpty, pools_lost};
 ghost use Rattle.gpu_descriptor.specs.Model.Foreign.{IsForeign, IsNamed, KeepsForeign};
 ghost use Rattle.gpu_descriptor.specs.Model.Load.{pool_descriptors, sets_out, descriptors_out, bucket_load};
 ghost use Rattle.gpu_descriptor.specs.Model.Load.{descriptors_created};
-ghost use Rattle.gpu_descriptor.specs.Model.Outcomes.{Allocates, Call};
+ghost use Rattle.gpu_descriptor.specs.Model.Outcomes.{Allocates, Call, IsWithinLimit, Stays};
 ghost use Rattle.gpu_descriptor.specs.Model.Promises.{IsUntouched};
 ghost use Rattle.gpu_descriptor.specs.Model.OneByOne.{freed_each};
 ghost use Rattle.gpu_descriptor.specs.Model.Release.{pools_gone, released};
@@ -28,6 +30,7 @@ ghost use Rattle.gpu_descriptor_types.specs.Ledger.{Ledger, Pool};
 ghost use Rattle.gpu_descriptor_types.specs.Multiset.{LiveSet, Spells};
 ghost use Rattle.std.specs.List.{list_any};
 ghost use Rattle.gpu_descriptor.specs.declared.errors.AllocationError.{AllocationError as Error};
+ghost use Rattle.gpu_descriptor.specs.declared.errors.AllocationError.TheVariants.{OutOfHostMemory};
 ghost use Rattle.gpu_descriptor.specs.declared.flags.DescriptorSetLayoutCreateFlags.{DescriptorSetLayoutCreateFlags as LayoutFlags};
 ghost use Rattle.gpu_descriptor.specs.declared.view.PoolView.{PoolView as View};
 
@@ -184,6 +187,19 @@ pub fn out_is_outstanding()
     ensures load { (s : State) (n : ℕ) → Agree s → AddsUp descriptors_out s.books n
         → (items : List Item) → ((t : Item) → count_of t items ≡ outstanding s t)
         → marked_descriptors items ≡ n }
+{}
+
+/// The limit never refuses a request for which places are known to be free. If 64 bits allow it, it is
+/// refused only if the device refused a call, or if memory was refused before the device was asked. Then
+/// nothing changed.
+pub fn only_device_and_memory_refuse()
+    ensures allowed { (c : Call) → Agree c.old → AddsUp descriptors_out c.old.books c.load → AddsUp
+        bucket_load c.old.books c.pooled → c.pooled ≤ c.limit → c.count ≤ free_places
+        (c.old.books c.key) → IsWithinLimit c }
+    ensures refused { (c : Call) → Allocates c → c.count ≤ free_places (c.old.books c.key)
+        → IsWithinLimit c → next_number (c.old.books c.key) + c.count ≤ greatest_u64
+        → c.out + c.count ≤ greatest_u64 → IfErr c.answer (λ e. (refusals c.before
+        < refusals c.after) ⊎ ((e ≡ OutOfHostMemory) × Stays c)) }
 {}
 
 /// Between the allocator's calls, pools of the device that aren't the allocator's may be created,

@@ -1,9 +1,10 @@
 //! Allocating sets.
-ghost use Rattle.std.specs.Prelude.{◌≡◌, ◌++◌, OnErr, [], ◌∷◌, OnOk};
+ghost use Rattle.std.specs.Prelude.{◌≡◌, ◌-◌, ◌++◌, OnErr, [], ◌∷◌, OnOk, vec_capacity, vec_len};
 ghost use Rattle.gpu_descriptor_types.specs.Counts.{kinds};
 ghost use Rattle.gpu_descriptor_types.specs.Side.{side};
 ghost use Rattle.gpu_descriptor.specs.Caller.Flags.{is_marked};
-ghost use Rattle.gpu_descriptor.specs.Caller.Call.{map_ok};
+ghost use Rattle.gpu_descriptor.specs.Caller.Call.{layout_key, map_ok};
+ghost use Rattle.gpu_descriptor.specs.Caller.Certain.{HasRefused, IsProvided};
 ghost use Rattle.gpu_descriptor.specs.Caller.States.{Agrees};
 ghost use Rattle.gpu_descriptor.specs.Caller.SetLayouts.{IsMeant};
 ghost use Rattle.gpu_descriptor.specs.Caller.SetLists.{appended};
@@ -71,6 +72,10 @@ impl<P: Drop, S: Drop> FrameManager<P, S> {
         ensures front { OnOk result (sets.new.items
             ≡ sets.old.items ++ appended sets.old.items sets.new.items) }
         ensures sets_stay { OnErr result (sets.new.items ≡ sets.old.items) }
+        ensures certain { IsProvided D.meaning (layout_key D.meaning layout.now.layout) count
+            (vec_capacity sets.old - vec_len sets.old) (side (allocator_of self.old)
+            (D.ledger device.old))
+            → OnErr result (HasRefused (D.ledger device.old) (D.ledger device.new)) }
     {
         self.allocator.allocate_into(device, layout, count, sets)
     }
@@ -84,8 +89,12 @@ impl<P: Drop, S: Drop> FrameManager<P, S> {
         requires meant { IsMeant D.meaning layout.now }
         requires agree { Agrees D.meaning.pool_name (allocator_of self.old) (D.ledger device.old) }
 
-        ensures { HandsOutForUse D.meaning layout.now.layout 1 (map_ok (λ set. set ∷ []) result)
-            (side self.old (D.ledger device.old)) (side self.new (D.ledger device.new)) }
+        ensures hands_out { HandsOutForUse D.meaning layout.now.layout 1
+            (map_ok (λ set. set ∷ []) result) (side self.old (D.ledger device.old))
+            (side self.new (D.ledger device.new)) }
+        ensures certain { IsProvided D.meaning (layout_key D.meaning layout.now.layout) 1 1
+            (side (allocator_of self.old) (D.ledger device.old))
+            → OnErr result (HasRefused (D.ledger device.old) (D.ledger device.new)) }
     {
         self.allocator.allocate_one(device, layout)
     }

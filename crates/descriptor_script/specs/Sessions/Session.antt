@@ -7,7 +7,7 @@ use Rattle.gpu_descriptor.specs.Caller.Keeps.{Keeps}
 use Rattle.gpu_descriptor.specs.Caller.States.{Agrees, outstanding_of, state_of}
 use Rattle.gpu_descriptor.specs.Caller.SetLayouts.{IsMeant}
 use Rattle.gpu_descriptor.specs.Caller.Sets.{items_of}
-use Rattle.gpu_descriptor.specs.Caller.Values.{Allocations, without_keys}
+use Rattle.gpu_descriptor.specs.Caller.Values.{Allocations, all_ids, without_keys}
 use Rattle.gpu_descriptor.specs.declared.layout.SetLayout.{SetLayout}
 use Rattle.gpu_descriptor.specs.declared.set.DescriptorSet.{DescriptorSet}
 use Rattle.descriptor_script.specs.Sessions.Tickets.{held_sets}
@@ -26,7 +26,7 @@ value_of s = record { allocator = s.allocator; layouts = s.layouts.items; sets =
 
 -- a session without layouts and sets, whose allocator has this limit
 abbrev pub new_session : {L P S : Type 0} → ℕ → SessionValue L P S
-new_session max = record { allocator = without_keys max; layouts = []; sets = [] }
+new_session max = record { allocator = without_keys max all_ids; layouts = []; sets = [] }
 
 -- its allocator, and the ledger of the device
 abbrev pub allocator_on : {L P S : Type 0} → Side (SessionValue L P S) → Side (Allocations P)

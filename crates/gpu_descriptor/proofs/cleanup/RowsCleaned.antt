@@ -197,7 +197,7 @@ module _ (everywhere : Bool) where
         → a.table ≡ map row_of es → HasDistinctKeys (rows_in name es)
         → rows_in name now ≡ map cleared_row (rows_in name es) → k ≡ ledger_less (rows_in name es) l
         → fs ≡ filter (λ e. has_pools e.1) now
-        → LosesEmpty everywhere (state_of name a l) (state_of name (record { limit = limit; bound = None; table = map row_of fs; looks = 0; comparisons = 0 }) k)
+        → LosesEmpty everywhere (state_of name a l) (state_of name (record { limit = limit; bound = None; ids = (0, 0); table = map row_of fs; looks = 0; comparisons = 0 }) k)
     whole_clean a l k es now fs limit is distinct rows pools kept = grind (arith, common_steps, state_is, is_cleaned)
 
     pub first_keys : (es : List (BucketKey × DescriptorBucket P)) → map (λ (r : Key × Bucket). r.0) (rows_in name es) ≡ map (λ e. key_of e.0) es

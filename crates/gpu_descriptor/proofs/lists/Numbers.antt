@@ -142,6 +142,11 @@ all_filter : {A : Type 0} (f : A → ℕ) (stays : A → Bool) (ys : List ℕ) (
 all_filter f stays ys n [] h = h
 all_filter f stays ys n (e ∷ es) h = grind (arith, (all_filter f stays ys n es))
 
+-- as is what holds of each
+pub all_left : {A : Type 0} (f : A → ℕ) (stays : A → Bool) (p : ℕ → Bool) (es : List A) → list_all p (map f es) ≡ true → list_all p (map f (filter stays es)) ≡ true
+all_left f stays p [] h = h
+all_left f stays p (e ∷ es) h = grind (arith, (all_left f stays p es))
+
 pub rises_filter : {A : Type 0} (f : A → ℕ) (stays : A → Bool) (ys : List ℕ) (es : List A) → rises (map f es ++ ys) ≡ true → rises (map f (filter stays es) ++ ys) ≡ true
 rises_filter f stays ys [] h = h
 rises_filter f stays ys (e ∷ es) h = grind (arith, all_filter, (rises_filter f stays ys es))

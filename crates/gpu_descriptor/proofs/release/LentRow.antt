@@ -39,9 +39,9 @@ module _ {P S : Type 0} (name : P → ℕ) (set_name : S → ℕ) (a : Allocatio
     ledger = gone ∙ (λ i. ledger_but_front 1 (here.books i) (here.ledger i))
 
     -- the state is released of the run's sets, and the counters rose so
-    pub row_ran : (limit : ℕ) → state_of name (record { limit = limit; bound = None; table = map row_of (set_value_at es i w); looks = 0; comparisons = 0 }) after ≡ released (items_of set_name (x ∷ xs)) (state_of name a l)
+    pub row_ran : (limit : ℕ) → state_of name (record { limit = limit; bound = None; ids = (0, 0); table = map row_of (set_value_at es i w); looks = 0; comparisons = 0 }) after ≡ released (items_of set_name (x ∷ xs)) (state_of name a l)
     row_ran limit =
-        let new : Allocations P = record { limit = limit; bound = None; table = map row_of (set_value_at es i w); looks = 0; comparisons = 0 } in
+        let new : Allocations P = record { limit = limit; bound = None; ids = (0, 0); table = map row_of (set_value_at es i w); looks = 0; comparisons = 0 } in
         let s = state_of name a l in
         let k = x.key.is in
         let books : (state_of name new after).books ≡ put_books s.books k (bucket_of name w) =

@@ -1,10 +1,13 @@
 -- The row of a live set: its key's, and the only one with its id.
 -- For `release_run`, which finds the row of a run by its id and compares no keys. es are the entries of the map, and s is the state.
 use Rattle.std.proofs.lemmas.Grind.{common_steps}
-use Rattle.gpu_descriptor.proofs.Common.{◌≡◌, ◌<◌, ℕ, suc, true, false, List, [], ◌∷◌, ◌++◌, slice_get, Option, Some, None, IfSome, inl, inr, refl, sym, ap, subst, ◌∙◌, arith, eq-eqb, eqb-true, map, nat_eq, HoldsAlong, cases_Bool, and_from, and_parts, false_from_ne_true, IsDistinct}
+use Rattle.gpu_descriptor.proofs.Common.{◌≡◌, ◌<◌, ℕ, zero, suc, Bool, list_all, true, false, List, [], ◌∷◌, ◌++◌, slice_get, Option, Some, None, IfSome, inl, inr, refl, sym, ap, subst, ◌∙◌, arith, eq-eqb, eqb-true, map, nat_eq, HoldsAlong, cases_Bool, and_from, and_parts, false_from_ne_true, IsDistinct}
 use Rattle.gpu_descriptor.proofs.Common.{Ledger, count_by_yes, BucketKey, DescriptorSet, DescriptorBucket, AreOutstanding, Item, State, item_eq, outstanding, Bucket, Entry, Key, key_eq, books_of, books_in, entry_at, key_of, Allocations, item_of, items_of, state_of, rises, stored_ids, stored_keys, EndsRun, AllByRecursion}
 use Rattle.gpu_descriptor.proofs.Common.{row_of, none-some, same_Some, true≢false}
 use Rattle.std.proofs.iter.Next.{Yields-more}
+use Rattle.gpu_descriptor.specs.Caller.States.{HasIds}
+use Rattle.gpu_descriptor.specs.Caller.Values.{IsIdOf}
+use Rattle.gpu_descriptor.specs.Inner.Ids.{is_id_of}
 use Rattle.gpu_descriptor.specs.Inner.RunSteps.{at_place, lies_at}
 use Rattle.gpu_descriptor.proofs.lists.Numbers.{rises_once}
 use Rattle.gpu_descriptor.proofs.table.Exact.{item_exact, key_exact}
@@ -51,6 +54,14 @@ found_row name k (e ∷ es) n f at = elim (cases_Bool (key_eq (key_of e.0) k)) [
   | inr other ↦ (let r = found_row name k es n f (rw other at at) in (suc r.0, r.1, record { key = r.2.key; at = r.2.at; is = r.2.is }))
 ]
 
+id_within : (ids : ℕ × ℕ) (id : ℕ) → is_id_of ids id ≡ true → IsIdOf ids id
+id_within ids id h = grind arith
+
+all_at : (p : ℕ → Bool) (xs : List ℕ) → list_all p xs ≡ true → (i x : ℕ) → slice_get xs i ≡ Some x → p x ≡ true
+all_at p [] h i x at = absurd (none-some x at)
+all_at p (y ∷ ys) h zero x at = (let both = and_parts (p y) (list_all p ys) h in subst (λ (z : ℕ). p z ≡ true) (same_Some y x at) both.0)
+all_at p (y ∷ ys) h (suc i) x at = all_at p ys (and_parts (p y) (list_all p ys) h).1 i x at
+
 module _ {P S : Type 0} (name : P → ℕ) (set_name : S → ℕ) (a : Allocations P) (l : Ledger) (es : List (BucketKey × DescriptorBucket P)) (is : a.table ≡ map row_of es) (distinct : IsDistinct key_eq (stored_keys es)) where
   abbrev s : State
   s = state_of name a l
@@ -62,6 +73,13 @@ module _ {P S : Type 0} (name : P → ℕ) (set_name : S → ℕ) (a : Allocatio
       let books = books_at a es is name l t.key in
       let r = found_row name t.key es t.number f.0 (ap (λ (b : Bucket). entry_at b t.number) (sym books) ∙ f.1) in
       record { place = r.0; bucket = r.1; row = r.2; has = sym (ap (λ (b : Bucket). b.id) (books ∙ present name distinct r.2)) ∙ f.3 }
+
+  -- the ids of the outstanding sets, from those of the rows
+  pub has_ids : rises (stored_ids es) ≡ true → list_all (is_id_of a.ids) (stored_ids es) ≡ true → HasIds name a l
+  has_ids rise ranged = record {
+    within = λ t out. (let own = owns t out in id_within a.ids t.id (all_at (is_id_of a.ids) (stored_ids es) ranged own.place t.id (own_id es rise own)));
+    apart = λ t u out_t out_u same. one_owner es rise (owns u out_u) (subst (λ (n : ℕ). Owns t.key n es) same (owns t out_t));
+  }
 
   -- the first set of a list that is live
   pub first_owns : (x : DescriptorSet S) (xs : List (DescriptorSet S)) → AreOutstanding (items_of set_name (x ∷ xs)) s → Owns x.key.is x.id es

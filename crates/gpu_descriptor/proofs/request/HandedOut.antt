@@ -1,26 +1,27 @@
 -- All that is promised of a request, from what it took: kept, freed, declined, or for no sets.
 -- For `fill`: each lemma makes a whole record of its contract, field by field.
-use Rattle.gpu_descriptor.proofs.Common.{◌≡◌, ◌≤◌, is_some, ℕ, ◌+◌, ◌<◌, List, Result, Ok, Err, sym, ap, ◌∙◌, arith, side, Meaning, Ledger, Counters, AllocationError, DescriptorSet, Stop, Agree, outstanding, HasDistinctKeys, Key, Allocations, run_digits, rules}
+use Rattle.gpu_descriptor.proofs.Common.{◌≡◌, ◌≤◌, is_some, ℕ, subst, ◌+◌, ◌<◌, List, Result, Ok, Err, sym, ap, ◌∙◌, arith, side, Meaning, Ledger, Counters, AllocationError, DescriptorSet, Stop, Agree, outstanding, HasDistinctKeys, Key, Allocations, run_digits, rules}
 use Rattle.gpu_descriptor.proofs.Common.{granted, items_in, stop_error, call_of, Returns, with_key, items_of, Agrees, marked_load_of, outstanding_of, pool_load_of, state_of, table_of, Allocates, None, taken_by, Takes, none-some, true≢false}
 use Rattle.gpu_descriptor.specs.Caller.HandsOut.{HandsOut}
 use Rattle.gpu_descriptor.specs.Caller.Keeps.{Keeps}
-use Rattle.gpu_descriptor.specs.Caller.States.{keys_of}
-use Rattle.gpu_descriptor.proofs.request.Outcomes.{taken_agree, taken_out, taken_own, taken_others, taken_others_of, went_back, back_out, back_others, back_totals, kept, kept_many, kept_totals}
+use Rattle.gpu_descriptor.specs.Caller.States.{HasIds, keys_of}
+use Rattle.gpu_descriptor.specs.Caller.Values.{IsIdOf}
+use Rattle.gpu_descriptor.proofs.request.Outcomes.{taken_agree, taken_given, taken_out, taken_own, taken_others, taken_others_of, went_back, back_out, back_others, back_totals, kept, kept_many, kept_totals}
 use Rattle.gpu_descriptor.proofs.request.Causes.{has_cause}
 use Rattle.gpu_descriptor.proofs.request.Promises.{short}
 
 module _ {L P S : Type 0} {means : Meaning L P S} {k : Key} {count : ℕ} {sets : List (DescriptorSet S)} {ended : Result (Unit {0}) Stop} {old new : Allocations P} {before after : Ledger}
     (t : Takes means k count sets ended (side old before) (side new after)) (agree : Agree (state_of means.pool_name old before)) where
   -- what every call keeps: once the sets came, and once they went back
-  pub keeps_all : HasDistinctKeys (table_of means.pool_name new) → new.limit ≡ old.limit → new.bound ≡ old.bound → marked_load_of new ≤ new.limit → pool_load_of new ≤ new.limit → Keeps means (side old before) (side new after)
-  keeps_all rows limit bound load pool_load = search (rules, taken_agree, taken_others_of)
+  pub keeps_all : HasDistinctKeys (table_of means.pool_name new) → new.limit ≡ old.limit → new.bound ≡ old.bound → new.ids ≡ old.ids → marked_load_of new ≤ new.limit → pool_load_of new ≤ new.limit → Keeps means (side old before) (side new after)
+  keeps_all rows limit bound range load pool_load = search (rules, taken_agree, taken_others_of)
 
 module _ {L P S : Type 0} {means : Meaning L P S} {k : Key} {count : ℕ} (sets : List (DescriptorSet S)) {ended : Result (Unit {0}) Stop} {old new : Allocations P} {before after : Ledger}
     (t : Takes means k count sets ended (side old before) (side new after)) (agree : Agrees means.pool_name old before) (keys : keys_of new ≡ with_key k (keys_of old))
     (looks : new.looks + before.counters.asked ≡ old.looks + after.counters.asked) (comparisons : new.comparisons ≡ old.comparisons) (some : 0 < count) where
   -- the sets are kept
-  pub hands_all : {x : Unit {0}} → ended ≡ Ok x → HandsOut means k count (Ok sets) (side old before) (side new after)
-  hands_all is =
+  pub hands_all : new.ids ≡ old.ids → HasIds means.pool_name new after → {x : Unit {0}} → ended ≡ Ok x → HandsOut means k count (Ok sets) (side old before) (side new after)
+  hands_all range has is =
       let all = kept t agree.books some is in
       let outcome = all.0 in
       record {
@@ -28,6 +29,7 @@ module _ {L P S : Type 0} {means : Meaning L P S} {k : Key} {count : ℕ} (sets 
         many = kept_many t agree.books is;
         given = taken_out t agree.books;
         of_key = taken_own t agree.books;
+        ids = λ u some. subst (λ (ids : ℕ × ℕ). IsIdOf ids u.id) range (has.within u (let out = taken_given t agree.books u in omega arith));
         totals = kept_totals t agree.books is;
         totals_stay = tt;
         back = tt;
@@ -54,6 +56,7 @@ module _ {L P S : Type 0} {means : Meaning L P S} {k : Key} {count : ℕ} (sets 
         many = tt;
         given = tt;
         of_key = tt;
+        ids = tt;
         totals = tt;
         totals_stay = back_totals t agree.books r.back;
         back = back_out t agree.books r.back;
@@ -76,6 +79,7 @@ module _ {L P S : Type 0} {means : Meaning L P S} {k : Key} {count : ℕ} {old n
     many = tt;
     given = tt;
     of_key = tt;
+    ids = tt;
     totals = tt;
     totals_stay = (λ i. outstanding_of (same i), λ i. marked_load_of (same i));
     back = λ u i. outstanding (state_of means.pool_name (same i) (ledger i)) u;

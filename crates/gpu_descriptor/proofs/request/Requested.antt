@@ -18,20 +18,20 @@ module _ {P : Type 0} (a : Allocations P) (es : List (BucketKey × DescriptorBuc
   books_at name before k = ap (λ (t : List (Key × BucketOf P)). books_of (map (named_row name) t) k) is
 
 -- the fields of an allocator, as callers see them
-abbrev pub seen : {P : Type 0} → ℕ → Option ℕ → ℕ → ℕ → List (BucketKey × DescriptorBucket P) → Allocations P
-seen limit bound looks compared es = record { limit = limit; bound = bound; table = map row_of es; looks = looks; comparisons = compared }
+abbrev pub seen : {P : Type 0} → ℕ → Option ℕ → ℕ × ℕ → ℕ → ℕ → List (BucketKey × DescriptorBucket P) → Allocations P
+seen limit bound ids looks compared es = record { limit = limit; bound = bound; ids = ids; table = map row_of es; looks = looks; comparisons = compared }
 
 -- no key has two rows, where the table has none twice
 pub rows_distinct : {P : Type 0} (name : P → ℕ) (es : List (BucketKey × DescriptorBucket P)) → IsDistinct key_eq (stored_keys es) → HasDistinctKeys (map (named_row name) (map row_of es))
 rows_distinct name es distinct = distinct_rows name es distinct
 
-module _ {P : Type 0} {a : Allocations P} {max looks compared : ℕ} {bound : Option ℕ} (es : List (BucketKey × DescriptorBucket P)) (is : seen max bound looks compared es ≡ a) where
+module _ {P : Type 0} {a : Allocations P} {max looks compared : ℕ} {bound : Option ℕ} {ids : ℕ × ℕ} (es : List (BucketKey × DescriptorBucket P)) (is : seen max bound ids looks compared es ≡ a) where
   pub table_is : a.table ≡ map row_of es
   table_is = ap (λ (x : Allocations P). x.table) (sym is)
 
   -- where nothing was written, callers see the same
-  pub seen_again : {looked : ℕ} {bound_now : Option ℕ} (fs : List (BucketKey × DescriptorBucket P)) → fs ≡ es → looked ≡ looks → bound_now ≡ bound → seen max bound_now looked compared fs ≡ a
-  seen_again fs rows count stays = (λ i. seen max (stays i) (count i) compared (rows i)) ∙ is
+  pub seen_again : {looked : ℕ} {bound_now : Option ℕ} {ids_now : ℕ × ℕ} (fs : List (BucketKey × DescriptorBucket P)) → fs ≡ es → looked ≡ looks → bound_now ≡ bound → ids_now ≡ ids → seen max bound_now ids_now looked compared fs ≡ a
+  seen_again fs rows count stays range = (λ i. seen max (stays i) (range i) (count i) compared (rows i)) ∙ is
 
   pub rows_apart : (name : P → ℕ) → IsDistinct key_eq (stored_keys es) → HasDistinctKeys (table_of name a)
   rows_apart name apart = subst (λ (x : Allocations P). HasDistinctKeys (table_of name x)) is (rows_distinct name es apart)
@@ -45,7 +45,7 @@ module _ {P : Type 0} {a : Allocations P} {max looks compared : ℕ} {bound : Op
 -- ---- the tests of a request, over the fields of an allocator
 
 module _ {L P S : Type 0} (means : Meaning L P S) {a : Allocations P} {max looks compared marked room out : ℕ}
-    {bound : Option ℕ} {es : List (BucketKey × DescriptorBucket P)} (is : seen max bound looks compared es ≡ a)
+    {bound : Option ℕ} {ids : ℕ × ℕ} {es : List (BucketKey × DescriptorBucket P)} (is : seen max bound ids looks compared es ≡ a)
     (counted : IsConsistent max marked room out es) (before : Ledger)
     (key : BucketKey) {count : ℕ} (some : 0 < count) {above : Bool} (test : above ≡ (key.marked && nat_lt a.limit (count * sum (kinds key.counts) + marked_load_of a))) where
   abbrev Declines : AllocationError → Type 0
@@ -81,7 +81,7 @@ module _ {L P S : Type 0} (means : Meaning L P S) {a : Allocations P} {max looks
 
 -- a request that passed them, and took what its key has
 module _ {L P S : Type 0} {means : Meaning L P S} {bound : Option ℕ} {key : BucketKey} {room count : ℕ} {sets : List (DescriptorSet S)} {ended : Result (Unit {0}) Stop} {es : List (BucketKey × DescriptorBucket P)} (fs : List (BucketKey × DescriptorBucket P)) {before after : Ledger}
-    (s : ServesKey means bound (key_of key) room count sets ended (map row_of es) (map row_of fs) before after) {a : Allocations P} {max looks compared marked out : ℕ} (is : seen max bound looks compared es ≡ a) (counted : IsConsistent max marked room out es)
+    (s : ServesKey means bound (key_of key) room count sets ended (map row_of es) (map row_of fs) before after) {a : Allocations P} {max looks compared marked out : ℕ} {ids : ℕ × ℕ} (is : seen max bound ids looks compared es ≡ a) (counted : IsConsistent max marked room out es)
     {above : Bool} (test : above ≡ (key.marked && nat_lt a.limit (count * sum (kinds key.counts) + marked_load_of a))) (below : above ≡ false) where
   sets_within : key.marked ≡ true → count * sum (kinds key.counts) + marked_load_of a ≤ a.limit
   sets_within = within_of key.marked a.limit (count * sum (kinds key.counts) + marked_load_of a) (sym test ∙ below)
@@ -94,5 +94,5 @@ module _ {L P S : Type 0} {means : Meaning L P S} {bound : Option ℕ} {key : Bu
   pub counted_now : {given more left : ℕ} → given ≡ length sets → given ≤ count → more ≡ set_descriptors (key_of key) given → left + sum_over bucket_load (map row_of fs) ≡ room + sum_over bucket_load (map row_of es) → IsConsistent max (marked + more) left (out + given) fs
   counted_now long few load moved = grind (arith, common_steps, given_fits)
 
-  pub takes_of : {past : Bool} → past ≡ nat_lt greatest_u64 (out + count) → past ≡ false → {looked : ℕ} {bound_now : Option ℕ} → Takes means (key_of key) count sets ended (side a before) (side (seen max bound_now looked compared fs) after)
-  takes_of bounded kept_in {looked} {bound_now} = grind (arith, common_steps, ltb-false, sets_within)
+  pub takes_of : {past : Bool} → past ≡ nat_lt greatest_u64 (out + count) → past ≡ false → {looked : ℕ} {bound_now : Option ℕ} {ids_now : ℕ × ℕ} → Takes means (key_of key) count sets ended (side a before) (side (seen max bound_now ids_now looked compared fs) after)
+  takes_of bounded kept_in {looked} {bound_now} {ids_now} = grind (arith, common_steps, ltb-false, sets_within)

@@ -2,7 +2,7 @@
 use Rattle.gpu_descriptor.proofs.Common.{◌≡◌, ℕ, ◌+◌, ◌≤◌, true, false, cond, List, [], ◌∷◌, inl, inr, refl, sym, ap, ◌∙◌, subst, arith, list_any, cases_Bool, sum_by-append, Key, key_eq, Bucket, no_pools, books_of, HasDistinctKeys, sum_over, common_steps}
 use Rattle.gpu_descriptor.proofs.table.Exact.{key_exact}
 
-sum_more : (f : Key → Bucket → ℕ) (row : Key × Bucket) (t : List (Key × Bucket)) → sum_over f (row ∷ t) ≡ f row.0 row.1 + sum_over f t
+pub sum_more : (f : Key → Bucket → ℕ) (row : Key × Bucket) (t : List (Key × Bucket)) → sum_over f (row ∷ t) ≡ f row.0 row.1 + sum_over f t
 sum_more f row t = sum_by-append (λ r. f r.0 r.1) (row ∷ []) t ∙ (let one : sum_over f (row ∷ []) ≡ f row.0 row.1 = omega arith in omega arith)
 
 pub key_eq_symm : (k l : Key) → key_eq k l ≡ key_eq l k

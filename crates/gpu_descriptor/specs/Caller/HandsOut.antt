@@ -1,10 +1,11 @@
 -- What a request for sets leaves of an allocator, of the ledger, and of the list to which its sets are appended.
 use Rattle.gpu_descriptor.specs.Model.Grants.{granted, items_in}
-use Rattle.std.specs.Prelude.{◌≡◌, ℕ, ◌+◌, ◌≤◌, ◌++◌, List, length, IfOk, IfErr, MatchOption, None, OnOk, OnErr, Result, if◌then◌else◌, is_some}
+use Rattle.std.specs.Prelude.{◌≡◌, ℕ, ◌+◌, ◌<◌, ◌≤◌, ◌++◌, List, length, IfOk, IfErr, MatchOption, None, OnOk, OnErr, Result, if◌then◌else◌, is_some}
 use Rattle.gpu_descriptor_types.specs.Meaning.{Meaning}
 use Rattle.gpu_descriptor_types.specs.Side.{Side}
 use Rattle.gpu_descriptor.specs.declared.errors.AllocationError.{AllocationError}
 use Rattle.gpu_descriptor.specs.declared.set.DescriptorSet.{DescriptorSet}
+use Rattle.gpu_descriptor.specs.Model.Agreement.{Item, count_of}
 use Rattle.gpu_descriptor.specs.Model.Books.{Key}
 use Rattle.gpu_descriptor.specs.Model.Load.{set_descriptors}
 use Rattle.gpu_descriptor.specs.Model.Outcomes.{Allocates, taken_by}
@@ -16,7 +17,11 @@ use Rattle.gpu_descriptor.specs.Caller.Keys.{with_key}
 use Rattle.gpu_descriptor.specs.Caller.SetLists.{appended}
 use Rattle.gpu_descriptor.specs.Caller.Sets.{AreOfLayout, items_of}
 use Rattle.gpu_descriptor.specs.Caller.States.{keys_of, marked_load_of, outstanding_of, state_of}
-use Rattle.gpu_descriptor.specs.Caller.Values.{Allocations}
+use Rattle.gpu_descriptor.specs.Caller.Values.{Allocations, IsIdOf}
+
+-- the sets of a list have ids of this range
+abbrev pub HaveIdsOf : ℕ × ℕ → List Item → Type 0
+HaveIdsOf ids items = (t : Item) → 0 < count_of t items → IsIdOf ids t.id
 
 -- a request for count sets of a key returned
 pub record HandsOut {L P S : Type 0} (means : Meaning L P S) (k : Key) (count : ℕ) (answer : Result (List (DescriptorSet S)) AllocationError) (old new : Side (Allocations P)) : Type 0 where
@@ -28,6 +33,8 @@ pub record HandsOut {L P S : Type 0} (means : Meaning L P S) (k : Key) (count : 
   pub given : IfOk answer (λ sets. AreOutBesides (items_of means.set_name sets) (state_of means.pool_name old.value old.ledger) (state_of means.pool_name new.value new.ledger))
   -- each has the counts and the mark of the layout
   pub of_key : IfOk answer (λ sets. AreOfKey k (items_of means.set_name sets))
+  -- and an id of the allocator's range
+  pub ids : IfOk answer (λ sets. HaveIdsOf old.value.ids (items_of means.set_name sets))
   -- the number of outstanding sets and the marked load rise by what was allocated
   pub totals : IfOk answer (λ sets. (outstanding_of new.value ≡ outstanding_of old.value + count) × (marked_load_of new.value ≡ marked_load_of old.value + set_descriptors k count))
   -- a failed request frees what it took

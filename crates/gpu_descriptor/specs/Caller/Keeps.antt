@@ -14,6 +14,8 @@ pub record Keeps {L P S : Type 0} (means : Meaning L P S) (old new : Side (Alloc
   pub limit : new.value.limit ≡ old.value.limit
   -- so does the bound on the descriptors of a new pool
   pub bound : new.value.bound ≡ old.value.bound
+  -- and the range of ids
+  pub range : new.value.ids ≡ old.value.ids
   -- the descriptors of the outstanding marked sets are within the limit
   pub load : marked_load_of new.value ≤ new.value.limit
   -- the descriptors of all pools of marked keys are within the limit

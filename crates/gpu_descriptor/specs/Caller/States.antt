@@ -1,11 +1,11 @@
 -- Books and ledger of an allocator over a device.
-use Rattle.std.specs.Prelude.{ℕ, map, List}
+use Rattle.std.specs.Prelude.{◌≡◌, ◌<◌, ℕ, map, List}
 use Rattle.gpu_descriptor_types.specs.Ledger.{Ledger}
 use Rattle.gpu_descriptor.specs.declared.bucket.DescriptorPool.{DescriptorPool}
 use Rattle.gpu_descriptor.specs.Model.Books.{Key, BucketOf, Entry, Bucket, HasDistinctKeys, books_of, sum_over}
-use Rattle.gpu_descriptor.specs.Model.Agreement.{State, Agree}
+use Rattle.gpu_descriptor.specs.Model.Agreement.{State, Agree, Item, outstanding}
 use Rattle.gpu_descriptor.specs.Model.Load.{sets_out, descriptors_out, bucket_load}
-use Rattle.gpu_descriptor.specs.Caller.Values.{Allocations}
+use Rattle.gpu_descriptor.specs.Caller.Values.{Allocations, IsIdOf}
 
 module _ {P : Type 0} (name : P → ℕ) where
   -- a pool in the books, under the name that the device gives it
@@ -34,6 +34,13 @@ module _ {P : Type 0} (name : P → ℕ) where
     pub rows : HasDistinctKeys (table_of a)
     -- the device has what the books say of their pools
     pub books : Agree (state_of a l)
+
+  -- which ids the outstanding sets have
+  pub record HasIds (a : Allocations P) (l : Ledger) : Type 0 where
+    -- each has one of the allocator's
+    pub within : (t : Item) → 0 < outstanding (state_of a l) t → IsIdOf a.ids t.id
+    -- and those of two keys have two
+    pub apart : (t u : Item) → 0 < outstanding (state_of a l) t → 0 < outstanding (state_of a l) u → t.id ≡ u.id → t.key ≡ u.key
 
 module _ {P : Type 0} where
   -- the keys of an allocator, in the order in which they were added

@@ -1,8 +1,9 @@
 //! Allocating sets of a layout that is stored with its counts and flags.
-ghost use Rattle.std.specs.Prelude.{[], ◌∷◌, IfOk};
+ghost use Rattle.std.specs.Prelude.{[], ◌∷◌, ◌-◌, IfOk, OnErr, vec_capacity, vec_len};
 ghost use Rattle.gpu_descriptor_types.specs.Meaning.{IsOfLayout};
 ghost use Rattle.gpu_descriptor_types.specs.Side.{side};
 ghost use Rattle.gpu_descriptor.specs.Caller.Call.{layout_key, map_ok};
+ghost use Rattle.gpu_descriptor.specs.Caller.Certain.{HasRefused, IsProvided};
 ghost use Rattle.gpu_descriptor.specs.Caller.HandsOut.{HandsInto, HandsOut};
 ghost use Rattle.gpu_descriptor.specs.Caller.Keeps.{Keeps};
 ghost use Rattle.gpu_descriptor.specs.Caller.SetLayouts.{IsMeant};
@@ -57,6 +58,11 @@ impl<P: Drop, S: Drop> DescriptorAllocator<P, S> {
         ensures appends { HandsInto D.meaning layout.now.layout count result sets.old.items
             sets.new.items (side self.old (D.ledger device.old))
             (side self.new (D.ledger device.new)) }
+
+        // With room in the vector and known free places, only the device refuses.
+        ensures certain { IsProvided D.meaning (layout_key D.meaning layout.now.layout) count
+            (vec_capacity sets.old - vec_len sets.old) (side self.old (D.ledger device.old))
+            → OnErr result (HasRefused (D.ledger device.old) (D.ledger device.new)) }
         ensures keeps { Keeps D.meaning (side self.old (D.ledger device.old))
             (side self.new (D.ledger device.new)) }
     {
@@ -77,6 +83,11 @@ impl<P: Drop, S: Drop> DescriptorAllocator<P, S> {
 
         ensures hands_out { HandsOut D.meaning (layout_key D.meaning layout.now.layout) 1
             (map_ok (λ set. set ∷ []) result) (side self.old (D.ledger device.old)) (side self.new (D.ledger device.new)) }
+
+        // With known free places, only the device refuses.
+        ensures certain { IsProvided D.meaning (layout_key D.meaning layout.now.layout) 1 1
+            (side self.old (D.ledger device.old))
+            → OnErr result (HasRefused (D.ledger device.old) (D.ledger device.new)) }
         ensures own { IfOk result (λ set. IsOfLayout D.meaning layout.now.layout (raw_of set)) }
         ensures keeps { Keeps D.meaning (side self.old (D.ledger device.old))
             (side self.new (D.ledger device.new)) }

@@ -96,6 +96,7 @@ impl<P, S> DescriptorAllocator<P, S> {
         ensures keys { keys_of self.new ≡ keys_of self.old }
         ensures limit { self.new.limit ≡ self.old.limit }
         ensures bound { self.new.bound ≡ self.old.bound }
+        ensures range { self.new.ids ≡ self.old.ids }
         ensures looks_stay { self.new.looks ≡ self.old.looks }
         ensures compares { Compares (search_digits ((state_of D.meaning.pool_name self.old
             (D.ledger device.old)).books first.key.is)) self.old.comparisons self.new.comparisons }

@@ -4,7 +4,7 @@ ghost use Rattle.gpu_descriptor_types.specs.Counts.{kinds};
 ghost use Rattle.gpu_descriptor_types.specs.Ledger.{Ledger};
 ghost use Rattle.gpu_descriptor.specs.Model.Agreement.{Item, outstanding};
 ghost use Rattle.gpu_descriptor.specs.Model.Books.{books_of};
-ghost use Rattle.gpu_descriptor.specs.Caller.States.{marked_load_of, outstanding_of, pool_load_of};
+ghost use Rattle.gpu_descriptor.specs.Caller.States.{HasIds, marked_load_of, outstanding_of, pool_load_of};
 ghost use Rattle.gpu_descriptor.specs.Caller.States.{state_of};
 ghost use Rattle.gpu_descriptor.specs.Caller.Views.{view_in};
 
@@ -21,6 +21,7 @@ impl<P, S> DescriptorAllocator<P, S> {
         // The number of the key's next pool has 64 bits.
         ensures numbers { (name : P → ℕ) (l : Ledger) (t : Item) → 0 < outstanding
             (state_of name self.now l) t → t.number + 1 < 2 ^ 64 }
+        ensures ids { (name : P → ℕ) (l : Ledger) → HasIds name self.now l }
     {
         self.outstanding
     }

@@ -1,14 +1,15 @@
 //! How a request is served: whether the limit allows it, and what is freed if it fails.
 ghost use Rattle.std.specs.Prelude.{◌≡◌, ◌+◌, ◌*◌, ◌<◌, ◌&&◌, nat_lt, sum, Err, None};
-ghost use Rattle.std.specs.Prelude.{IfOk, IfErr, OnOk, OnErr};
+ghost use Rattle.std.specs.Prelude.{IfOk, IfErr, IsOk, OnOk, OnErr};
 ghost use Rattle.gpu_descriptor_types.specs.Counts.{kinds};
 ghost use Rattle.gpu_descriptor_types.specs.Side.{side};
 ghost use Rattle.gpu_descriptor.specs.Caller.Call.{call_of, layout_key};
+ghost use Rattle.gpu_descriptor.specs.Caller.Certain.{HasRefused, IsProvided};
 ghost use Rattle.gpu_descriptor.specs.Caller.HandsOut.{HandsInto};
 ghost use Rattle.gpu_descriptor.specs.Caller.Keeps.{Keeps};
 ghost use Rattle.gpu_descriptor.specs.Caller.Keys.{with_key};
 ghost use Rattle.gpu_descriptor.specs.Caller.SetLists.{appended};
-ghost use Rattle.gpu_descriptor.specs.Caller.States.{Agrees, keys_of, marked_load_of};
+ghost use Rattle.gpu_descriptor.specs.Caller.States.{Agrees, HasIds, keys_of, marked_load_of};
 ghost use Rattle.gpu_descriptor.specs.Inner.KeyOf.{key_of};
 ghost use Rattle.gpu_descriptor.specs.Inner.Walk.{CountsLooks};
 ghost use Rattle.gpu_descriptor.specs.Inner.Serves.{Appends, Takes};
@@ -43,6 +44,9 @@ impl<P: Drop, S> DescriptorAllocator<P, S> {
         ensures appends { HandsInto D.meaning layout.now count result.1 (K.items sets)
             (K.items result.0) (side self.old (D.ledger device.old))
             (side self.new (D.ledger device.new)) }
+        ensures certain { IsProvided D.meaning (layout_key D.meaning layout.now) count
+            (K.places sets) (side self.old (D.ledger device.old))
+            → OnErr result.1 (HasRefused (D.ledger device.old) (D.ledger device.new)) }
         ensures keeps { Keeps D.meaning (side self.old (D.ledger device.old))
             (side self.new (D.ledger device.new)) }
     {
@@ -75,6 +79,9 @@ impl<P: Drop, S> DescriptorAllocator<P, S> {
         ensures appends { HandsInto D.meaning request.now.layout.now request.now.count result.1
             (K.items sets) (K.items result.0) (side self.old (D.ledger device.old))
             (side self.new (D.ledger device.new)) }
+        ensures certain { IsProvided D.meaning (layout_key D.meaning request.now.layout.now)
+            request.now.count (K.places sets) (side self.old (D.ledger device.old))
+            → OnErr result.1 (HasRefused (D.ledger device.old) (D.ledger device.new)) }
         ensures keeps { Keeps D.meaning (side self.old (D.ledger device.old))
             (side self.new (D.ledger device.new)) }
     {
@@ -118,6 +125,9 @@ impl<P: Drop, S> DescriptorAllocator<P, S> {
         ensures looks { CountsLooks self.old.looks self.new.looks
             (D.ledger device.old) (D.ledger device.new) }
         ensures comparisons_stay { self.new.comparisons ≡ self.old.comparisons }
+        ensures ids { OnOk result (HasIds D.meaning.pool_name self.new (D.ledger device.new)) }
+        ensures certain { IsProvided D.meaning (key_of request.now.key) request.now.count
+            (K.places sink.old.sets) (side self.old (D.ledger device.old)) → IsOk result }
         ensures keys { OnOk result (keys_of self.new
             ≡ with_key (key_of request.now.key) (keys_of self.old)) }
         ensures allocator { OnErr result (self.new ≡ self.old) }

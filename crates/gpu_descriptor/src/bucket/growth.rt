@@ -1,6 +1,6 @@
 //! How a request takes sets from a new pool of its key.
 ghost use Rattle.std.specs.Prelude.{◌≡◌, ◌+◌, ◌*◌, ◌<◌, ◌≤◌, ◌++◌, ◌∷◌, ◌^◌, List, [], length, map};
-ghost use Rattle.std.specs.Prelude.{All, IfErr, IfSome, IfNone, None, OnOk};
+ghost use Rattle.std.specs.Prelude.{All, IfErr, IfSome, IfNone, IsOk, None, OnOk};
 ghost use Rattle.std.specs.VecDeque.{deque_capacity};
 ghost use Rattle.gpu_descriptor_types.specs.Counts.{greatest, kinds};
 ghost use Rattle.gpu_descriptor_types.specs.Flags.{bits, pool_flags as pool_flags_of};
@@ -175,6 +175,9 @@ impl<P> DescriptorBucket<P> {
         ensures capacity { OnOk result (length self.new.pools.items < deque_capacity self.new.pools) }
         ensures listed { OnOk result (length self.new.pools.items
             < deque_capacity self.new.listed.ordinals) }
+        // With capacity for one more, no memory is needed.
+        ensures fits { length self.old.pools.items < deque_capacity self.old.pools
+            → length self.old.pools.items < deque_capacity self.old.listed.ordinals → IsOk result }
     {
         self.pools.reserve(1)?;
         self.listed.reserve_for(self.pools.len() + 1)

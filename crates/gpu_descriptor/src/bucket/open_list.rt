@@ -1,5 +1,5 @@
 //! The list of a key's open pools, which are those with known free places.
-ghost use Rattle.std.specs.Prelude.{◌≡◌, ◌==◌, ◌+◌, ◌-◌, ◌<◌, ◌≤◌, ◌^◌, ◌++◌, ◌∷◌, [], OnOk, drop, length, take, true};
+ghost use Rattle.std.specs.Prelude.{◌≡◌, ◌==◌, ◌+◌, ◌-◌, ◌<◌, ◌≤◌, ◌^◌, ◌++◌, ◌∷◌, [], IsOk, OnOk, drop, length, take, true};
 ghost use Rattle.std.specs.VecDeque.{deque_capacity};
 ghost use Rattle.std.specs.List.Sorted.{IsNonDecreasing};
 ghost use Rattle.gpu_descriptor.specs.Caller.Comparisons.{binary_digits};
@@ -38,6 +38,7 @@ impl OpenList {
         ensures ordinals { self.new.ordinals.items ≡ self.old.ordinals.items }
         ensures capacity { deque_capacity self.old.ordinals ≤ deque_capacity self.new.ordinals }
         ensures reserved { OnOk result (pools ≤ deque_capacity self.new.ordinals) }
+        ensures fits { pools ≤ deque_capacity self.old.ordinals → IsOk result }
     {
         let missing = pools - self.ordinals.len();
         self.ordinals.reserve(missing)

@@ -1,5 +1,5 @@
 //! A request for sets of one key: what it asks for, and how the key's bucket serves it.
-ghost use Rattle.std.specs.Prelude.{◌≡◌, ◌+◌, ◌<◌, ◌^◌, length, IfErr, OnOk};
+ghost use Rattle.std.specs.Prelude.{◌≡◌, ◌+◌, ◌<◌, ◌≤◌, ◌^◌, length, IfErr, IsOk, OnOk};
 ghost use Rattle.gpu_descriptor.specs.Caller.Call.{layout_key};
 ghost use Rattle.gpu_descriptor.specs.Caller.SetLists.{appended};
 ghost use Rattle.gpu_descriptor.specs.Caller.Sets.{items_of};
@@ -53,6 +53,8 @@ impl<P: Drop> DescriptorBucket<P> {
             < 2 ^ 64) }
         ensures refused { IfErr result (IsUnserved count (number_after
             (numbers_of self.now.pools.items))) }
+        ensures fits { count ≤ K.places sink.old.sets
+            → number_after (numbers_of self.now.pools.items) + count < 2 ^ 64 → IsOk result }
     {
         if would_exceed_64_bits(self.next_number(), count) {
             return Err(AllocationError::Fragmentation);

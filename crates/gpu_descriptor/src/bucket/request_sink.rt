@@ -1,5 +1,5 @@
 //! Where a request puts the sets that the device gives.
-ghost use Rattle.std.specs.Prelude.{◌≡◌, ◌≤◌, OnOk};
+ghost use Rattle.std.specs.Prelude.{◌≡◌, ◌≤◌, IsOk, OnOk};
 
 use crate::key::BucketKey;
 use crate::places::SetPlaces;
@@ -45,6 +45,7 @@ impl<'k, S, K: SetPlaces<S>> RequestSink<'k, S, K> {
     pub(crate) fn make_room(&mut self, count: u32) -> Result<(), AllocError>
         ensures sets { K.items self.new.sets ≡ K.items self.old.sets }
         ensures left { OnOk result (self.new.left ≡ count) }
+        ensures fits { count ≤ K.places self.old.sets → IsOk result }
     {
         self.sets.make_room(count)?;
         self.left = count;

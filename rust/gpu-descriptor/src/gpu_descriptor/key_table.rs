@@ -22,6 +22,10 @@ use crate::kit::ops::Range;
 pub(crate) struct KeyTable<P> {
     pub(crate) buckets: IndexMap<BucketKey, DescriptorBucket<P>>,
 
+    /// The start of the range of ids, for contracts alone.
+    #[expect(dead_code)]
+    first_id: u64,
+
     /// The id of the next key. It never decreases, so no two keys ever share an id.
     pub(crate) next_id: u64,
 
@@ -41,6 +45,7 @@ impl<P> KeyTable<P> {
     {
         KeyTable {
             buckets: IndexMap::new(alloc),
+            first_id: ids.start,
             next_id: ids.start,
             end_id: ids.end,
             last: 0,

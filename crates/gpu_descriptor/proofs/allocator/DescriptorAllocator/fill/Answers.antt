@@ -1,7 +1,9 @@
-use Rattle.gpu_descriptor.proofs.Common.{◌≡◌, ◌++◌, ℕ, List, drop, take, take_at, subst, sym, ap, ◌∙◌, Err, side, DescriptorSet, Key, items_of, call_of, layout_key, with_key, AreOutstanding, AreOfLayout, state_of, Allocates, None, taken_by, Takes, Returns, arith, common_steps}
+use Rattle.gpu_descriptor.proofs.Common.{◌≡◌, ◌++◌, ℕ, List, drop, take, take_at, subst, sym, ap, ◌∙◌, Err, side, DescriptorSet, Key, items_of, call_of, layout_key, with_key, AreOutstanding, AreOfLayout, state_of, Allocates, None, is_some, false≢true, key_of, taken_by, Takes, Returns, arith, common_steps}
 use Rattle.gpu_descriptor.specs.Caller.SetLists.{appended}
+use Rattle.gpu_descriptor.specs.Caller.Certain.{IsProvided}
 use Rattle.gpu_descriptor.specs.Caller.States.{keys_of}
-use Rattle.gpu_descriptor.proofs.request.Outcomes.{taken_given}
+use Rattle.gpu_descriptor.proofs.request.Outcomes.{taken_given, went_back}
+use Rattle.gpu_descriptor.proofs.request.Certain.{walk_refused}
 use Rattle.gpu_descriptor.proofs.request.HandedOut.{hands_all, hands_back, hands_none}
 use Rattle.gpu_descriptor.proofs.allocator.DescriptorAllocator.fill.Goals.{After-free_after, In-Ok}
 use Rattle.gpu_descriptor.proofs.allocator.DescriptorAllocator.fill.Goals as goal
@@ -69,7 +71,7 @@ pub returns-in-Ok-ended-clause-appends : goal.returns-in-Ok-ended-clause-appends
 returns-in-Ok-ended-clause-appends g c =
     let r = (goal.at.returns-in-Ok-ended-clause-appends g c).In-Ok in
     record {
-      hands_out = hands_all (came g r) (taken g r) c.requires.agree (gained g r) c.in-Ok.ensures.looks c.in-Ok.ensures.comparisons_stay c.requires.some c.in-Ok-ended.is;
+      hands_out = hands_all (came g r) (taken g r) c.requires.agree (gained g r) c.in-Ok.ensures.looks c.in-Ok.ensures.comparisons_stay c.requires.some c.in-Ok.ensures.keeps.range c.in-Ok.ensures.ids c.in-Ok-ended.is;
       front = front g r;
       own = subst (AreOfLayout g.D.DescriptorDevice.meaning c.args.request.now.layout.now) (is_put g r) c.in-Ok.ensures.appends.own;
       sets_stay = tt;
@@ -85,3 +87,16 @@ returns-in-Err-ended-clause-appends g c =
       own = tt;
       sets_stay = c.free_after.ensures.items ∙ ap (take c.count-first.result) (front g r) ∙ take_at (g.K.SetPlaces.items c.args.sets) (came g r) c.count-first.result (sym c.count-first.ensures);
     }
+
+pub returns-in-Err-clause-certain : goal.returns-in-Err-clause-certain
+returns-in-Err-clause-certain g c provided =
+    let old = side c.args.self.now (g.D.DescriptorDevice.ledger c.args.device.now) in
+    let stored = subst (λ (k : Key). IsProvided g.D.DescriptorDevice.meaning k c.args.request.now.count (g.K.SetPlaces.places c.args.sets) old) (sym c.args.request.now.same) provided in
+    absurd (false≢true (c.in-Err.ensures.certain (subst (λ (n : ℕ). IsProvided g.D.DescriptorDevice.meaning (key_of c.args.request.now.key) c.args.request.now.count n old) (sym (ap g.K.SetPlaces.places c.new-sink.ensures)) stored)))
+
+pub returns-in-Err-ended-clause-certain : goal.returns-in-Err-ended-clause-certain
+returns-in-Err-ended-clause-certain g c provided =
+    let r = (goal.at.returns-in-Err-ended-clause-certain g c).In-Ok in
+    let back = returned g (goal.at.returns-in-Err-ended-clause-certain g c).After-free_after in
+    let went = went_back (taken g r) c.requires.agree.books c.in-Ok.ensures.keeps.agree.rows c.requires.some back.back c.in-Err-ended.is in
+    walk_refused _ provided.free went.0 (ap is_some went.2)

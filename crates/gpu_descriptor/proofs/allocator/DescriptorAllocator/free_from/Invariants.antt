@@ -7,6 +7,7 @@ invariant-loop-ahead g l = record {
   freed : Freed g.D.DescriptorDevice.meaning g.I.Iterator.next_gives g.I.Iterator.can_next g.I.Iterator.remaining l.fn.sets l.fn.self (g.D.DescriptorDevice.ledger l.fn.device) l.self (g.D.DescriptorDevice.ledger l.device) l.ahead l.sets;
   limit : l.self.limit ≡ l.fn.self.limit;
   bound : l.self.bound ≡ l.fn.self.bound;
+  range : l.self.ids ≡ l.fn.self.ids;
   looks : l.self.looks ≡ l.fn.self.looks;
 }
 

@@ -1,3 +1,5 @@
+use Rattle.gpu_descriptor.proofs.Common.{list_all}
+use Rattle.gpu_descriptor.specs.Inner.Ids.{is_id_of}
 use Rattle.gpu_descriptor.proofs.Common.{common_steps, length-map, slice_get_within}
 use Rattle.gpu_descriptor.proofs.Common.{Bool, flag_of, if◌then◌else◌, length, bucket_but_front, ◌≡◌, ◌+◌, ◌-◌, ℕ, arith, refl, sym, ap, ◌∙◌, List, [], ◌∷◌, subst, IsDistinct, Bucket, Key, key_eq, key_of, Allocations, DescriptorSet, items_of, state_of, binary_digits, rises, stored_ids, ◌++◌, pools_load, set_descriptors}
 use Rattle.indexmap.specs.Layout.{set_value_at}
@@ -125,6 +127,8 @@ invariant_of-self-inside-2 g c =
     (c.destroy_empty_front.ensures.books ∙ ap (bucket_but_front 1) c.release_sets-ahead.ensures.ran.2.books)) in
     record {
       rising = ap (λ (ids : List ℕ). rises (ids ++ c.self.inside.table.next_id ∷ [])) same ∙ c.self.inside.table.rising;
+      begun = c.self.inside.table.begun;
+      ranged = ap (list_all (is_id_of (c.self.inside.table.first_id, c.self.inside.table.end_id))) same ∙ c.self.inside.table.ranged;
       distinct = subst (IsDistinct key_eq) (sym (keys_at es c.place_of_id-place.result c.destroy_empty_front.new.self)) c.self.inside.table.distinct;
       flagged = (
           let put = flags_put es c.place_of_id-place.result _ c.pair_mut-bucket.result.1.now c.pair_mut-bucket.ensures.value c.self.inside.table.flagged c.destroy_empty_front.new.self in

@@ -1,9 +1,11 @@
-use Rattle.gpu_descriptor.proofs.Common.{◌≡◌, ◌≤◌, ◌+◌, suc, rules, refl, sym, ap, subst, ◌∙◌, arith, length, map, length-map, take_all, Ledger, Bucket, key_of, Allocations, AreBookedIn, has_pools, rises, stored_ids, outstanding_of, marked_load_of, bucket_of, named_row, row_of}
+use Rattle.gpu_descriptor.proofs.Common.{◌≡◌, ◌≤◌, ◌+◌, ℕ, suc, rules, refl, sym, ap, subst, ◌∙◌, arith, length, map, length-map, take_all, Ledger, Bucket, key_of, Allocations, AreBookedIn, has_pools, rises, stored_ids, outstanding_of, marked_load_of, bucket_of, named_row, row_of}
 use Rattle.gpu_descriptor.proofs.Common.{◌++◌, ◌∷◌, [], IsDistinct, key_eq}
+use Rattle.gpu_descriptor.proofs.Common.{list_all}
+use Rattle.gpu_descriptor.specs.Inner.Ids.{is_id_of}
 use Rattle.indexmap.proofs.CallerLemmas.{filter-RetainsPairs}
 use Rattle.indexmap.specs.Layout.{length-set_value_at}
 use Rattle.gpu_descriptor.proofs.table.Rising.{ids_put}
-use Rattle.gpu_descriptor.proofs.lists.Numbers.{rises_filter}
+use Rattle.gpu_descriptor.proofs.lists.Numbers.{all_left, rises_filter}
 use Rattle.gpu_descriptor.proofs.table.RowAt.{keys_at, value_at}
 use Rattle.gpu_descriptor.proofs.cleanup.Cleaning.{clean_agrees, takes_none}
 use Rattle.gpu_descriptor.proofs.sums.Flags.{flag_counted, flags_fit, flags_put, flags_filter}
@@ -14,6 +16,9 @@ use Rattle.gpu_descriptor.proofs.foreign.OthersStay.{cleaned_others, emptied}
 use Rattle.gpu_descriptor.proofs.request.Requested.{rows_distinct}
 use Rattle.gpu_descriptor.proofs.table.TableBooks.{rows_in, distinct_rows, distinct_stored}
 use Rattle.gpu_descriptor.proofs.allocator.DescriptorAllocator.sweep.Goals as goal
+
+same_range : {a b c d : ℕ} → a ≡ b → c ≡ d → ◌≡◌ {A = ℕ × ℕ} (a, c) (b, d)
+same_range first end = λ i. (first i, end i)
 
 pub destroy_empty-requires-clause-stored : goal.destroy_empty-requires-clause-stored
 destroy_empty-requires-clause-stored g c =
@@ -40,6 +45,8 @@ invariant_of-self-inside g c =
     let at = c.pair_mut-bucket.ensures.value in
     record {
       rising = ap (λ ids. rises (ids ++ c.loop-place.self-inside.table.next_id ∷ [])) (ids_put es i c.pair_mut-bucket.result.1.now c.destroy_empty.new.self (value_at es i _ _ at) (ap (λ (b : Bucket). b.id) c.destroy_empty.ensures.books)) ∙ c.loop-place.self-inside.table.rising;
+      begun = c.loop-place.self-inside.table.begun;
+      ranged = ap (list_all (is_id_of (c.loop-place.self-inside.table.first_id, c.loop-place.self-inside.table.end_id))) (ids_put es i c.pair_mut-bucket.result.1.now c.destroy_empty.new.self (value_at es i _ _ at) (ap (λ (b : Bucket). b.id) c.destroy_empty.ensures.books)) ∙ c.loop-place.self-inside.table.ranged;
       distinct = subst (IsDistinct key_eq) (sym (keys_at es i c.destroy_empty.new.self)) c.loop-place.self-inside.table.distinct;
       flagged = c.count_anew.ensures ∙ flags_put es i _ _ at c.loop-place.self-inside.table.flagged c.destroy_empty.new.self;
     }
@@ -75,6 +82,8 @@ loop-place-preserved g c =
       marked = h.marked;
       limit = h.limit;
       bound = h.bound;
+      first = h.first;
+      end = h.end;
       looks = h.looks;
       comparisons = h.comparisons;
     }
@@ -85,6 +94,8 @@ invariant_of-self-inside-2 g c =
     let left = rises_filter (λ e. e.1.id) (λ e. has_pools e.1) (c.loop-place.self-inside.table.next_id ∷ []) c.loop-place.self-inside.table.buckets.entries c.loop-place.self-inside.table.rising in
     record {
       rising = ap (λ es. rises (stored_ids es ++ c.loop-place.self-inside.table.next_id ∷ [])) kept ∙ left;
+      begun = c.loop-place.self-inside.table.begun;
+      ranged = ap (λ es. list_all (is_id_of (c.loop-place.self-inside.table.first_id, c.loop-place.self-inside.table.end_id)) (stored_ids es)) kept ∙ all_left (λ e. e.1.id) (λ e. has_pools e.1) (is_id_of (c.loop-place.self-inside.table.first_id, c.loop-place.self-inside.table.end_id)) c.loop-place.self-inside.table.buckets.entries c.loop-place.self-inside.table.ranged;
       distinct = distinct_stored _ (λ k l. search rules) _ c.retain.ensures.unique;
       flagged = c.loop-place.self-inside.table.flagged ∙ sym (flags_filter c.loop-place.self-inside.table.buckets.entries c.retain.new.self.entries kept);
     }
@@ -111,6 +122,7 @@ returns g c =
     record {
       limit = c.loop-place.self-inside.max_update_after_bind_descriptors_in_all_pools;
       bound = c.loop-place.self-inside.budget.bound;
+      ids = (c.loop-place.self-inside.table.first_id, c.loop-place.self-inside.table.end_id);
       table = map row_of c.retain.new.self.entries;
       looks = c.loop-place.self-inside.budget.looks.count;
       comparisons = c.loop-place.self-inside.comparisons.count;
@@ -133,6 +145,7 @@ returns g c =
         agree = record { rows = rows_distinct name c.retain.new.self.entries (distinct_stored _ (λ k l. search rules) _ c.retain.ensures.unique); books = clean_agrees c.args.everywhere _ _ c.requires.agree.books clean };
         limit = h.limit ∙ ap (λ (a : Allocations _). a.limit) c.self.view_is;
         bound = h.bound ∙ ap (λ (a : Allocations _). a.bound) c.self.view_is;
+        range = same_range h.first h.end ∙ ap (λ (a : Allocations _). a.ids) c.self.view_is;
         load = (omega arith);
         pool_load = (omega arith);
         others = cleaned_others name c.args.everywhere c.args.self.now now (ledger c.args.device.now) (ledger c.loop-place.device) clean;

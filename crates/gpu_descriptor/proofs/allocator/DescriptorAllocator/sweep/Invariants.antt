@@ -18,6 +18,8 @@ invariant-loop-place g l =
       marked : l.self-inside.update_after_bind_descriptors ≡ l.initial.self-inside.update_after_bind_descriptors;
       limit : l.self-inside.max_update_after_bind_descriptors_in_all_pools ≡ l.initial.self-inside.max_update_after_bind_descriptors_in_all_pools;
       bound : l.self-inside.budget.bound ≡ l.initial.self-inside.budget.bound;
+      first : l.self-inside.table.first_id ≡ l.initial.self-inside.table.first_id;
+      end : l.self-inside.table.end_id ≡ l.initial.self-inside.table.end_id;
       looks : l.self-inside.budget.looks.count ≡ l.initial.self-inside.budget.looks.count;
       comparisons : l.self-inside.comparisons.count ≡ l.initial.self-inside.comparisons.count;
     }

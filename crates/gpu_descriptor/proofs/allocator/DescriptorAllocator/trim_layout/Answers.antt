@@ -49,6 +49,8 @@ destroy_empty-requires-clause-stored g c =
 pub invariant_of-self-inside : goal.invariant_of-self-inside
 invariant_of-self-inside g c = record {
   rising = grind (arith, common_steps, ids_put, value_at);
+  begun = c.self.inside.table.begun;
+  ranged = grind (arith, common_steps, ids_put, value_at);
   distinct = grind (arith, common_steps, keys_at);
   flagged = (
       let put = flags_put c.self.inside.table.buckets.entries c.in-Some.place _ _ c.pair_mut-bucket.ensures.value c.self.inside.table.flagged c.destroy_empty.new.self in
@@ -82,6 +84,7 @@ returns g c =
     record {
       limit = c.self.inside.max_update_after_bind_descriptors_in_all_pools;
       bound = c.self.inside.budget.bound;
+      ids = (c.self.inside.table.first_id, c.self.inside.table.end_id);
       table = map row_of fs;
       looks = c.self.inside.budget.looks.count;
       comparisons = c.self.inside.comparisons.count;
@@ -105,6 +108,7 @@ returns g c =
         agree = record { rows = rows_apart {a = now} fs refl name distinct; books = subst Agree (sym state) (emptied_agree less c.requires.agree.books) };
         limit = ap (λ (a : Allocations _). a.limit) c.self.view_is;
         bound = ap (λ (a : Allocations _). a.bound) c.self.view_is;
+        range = ap (λ (a : Allocations _). a.ids) c.self.view_is;
         load = load_within {a = now} fs refl counted;
         pool_load = pool_load_within {a = now} fs refl counted;
         others = emptied_others name old now before after (subst (Empties s) (sym state) less);

@@ -1,5 +1,8 @@
-use Rattle.gpu_descriptor.proofs.Common.{ℕ, List, lookup, BucketKey, DescriptorBucket, map-append, greatest_u64, ◌≡◌, ◌+◌, ◌≤◌, ◌++◌, ◌∷◌, [], Bool, None, inl, refl, sym, ap, ◌∙◌, subst, arith, rules, map, Bucket, key_eq, no_pools, next_number, key_of, is_of, rises, stored_ids, books_in, entry_of}
+use Rattle.gpu_descriptor.proofs.Common.{ℕ, List, lookup, BucketKey, DescriptorBucket, map-append, greatest_u64, ◌≡◌, ◌+◌, ◌<◌, ◌≤◌, ◌++◌, ◌∷◌, [], Bool, None, inl, refl, sym, ap, ◌∙◌, subst, arith, rules, map, Bucket, key_eq, no_pools, next_number, key_of, is_of, rises, stored_ids, books_in, entry_of}
 use Rattle.gpu_descriptor.proofs.Common.{pools_load, numbers_of, row_of, count_flagged, IsUnserved, DescriptorPool, number_after}
+use Rattle.gpu_descriptor.proofs.Common.{false, list_all, nat_lt, true}
+use Rattle.gpu_descriptor.specs.Inner.Ids.{is_id_of}
+use Rattle.std.proofs.lemmas.List.Folds.{list_all-append}
 use Rattle.gpu_descriptor.proofs.lists.Numbers.{next_push, rises_push}
 use Rattle.gpu_descriptor.proofs.table.RowAt.{lookup_same}
 use Rattle.indexmap.specs.IndexMap.{IndexMap, insert_entry}
@@ -32,10 +35,10 @@ no_numbers : (g : _) (c : Start g) → IsUnserved c.args.request.now.count (next
 no_numbers g c = inl (refl, subst (λ (b : Bucket). next_number b + c.args.request.now.count ≤ greatest_u64) (sym (absent g c)) (let n = c.requires.bound in omega arith))
 
 pub returns-then-is_err : goal.returns-then-is_err
-returns-then-is_err g c = record { serves = unserved c.args.self.now.buckets.entries refl (no_numbers g (goal.at.returns-then-is_err g c).Start) refl c.reserve.ensures.entries }
+returns-then-is_err g c = record { serves = unserved c.args.self.now.buckets.entries refl (no_numbers g (goal.at.returns-then-is_err g c).Start) refl c.reserve.ensures.entries; range = (refl, refl) }
 
 pub returns-then-self : goal.returns-then-self
-returns-then-self g c = record { serves = unserved c.args.self.now.buckets.entries refl (no_numbers g (goal.at.returns-then-self g c).Start) refl c.reserve.ensures.entries }
+returns-then-self g c = record { serves = unserved c.args.self.now.buckets.entries refl (no_numbers g (goal.at.returns-then-self g c).Start) refl c.reserve.ensures.entries; range = (refl, refl) }
 
 pub returns-in_err-prepare : goal.returns-in_err-prepare
 returns-in_err-prepare g c =
@@ -44,7 +47,12 @@ returns-in_err-prepare g c =
     record {
       serves = unserved c.args.self.now.buckets.entries (passed c.from_residual.result c.in_err-prepare.field-0.0 c.from_residual.ensures.1)
           (subst (λ (n : ℕ). IsUnserved c.args.request.now.count n c.in_err-prepare.field-0.0) first c.in_err-prepare.ensures.refused) c.prepare.ensures.sets c.reserve.ensures.entries;
+      range = (refl, refl);
     }
+
+-- an id before the end is one of the range
+ranged_push : (ids : List ℕ) (next first end : ℕ) → list_all (is_id_of (first, end)) ids ≡ true → nat_lt next first ≡ false → next < end → list_all (is_id_of (first, end)) (ids ++ next ∷ []) ≡ true
+ranged_push ids next first end all begun below = grind (arith, list_all-append)
 
 -- the new key goes last
 put : (g : _) (c : In-Ok g) → c.insert.new.self.entries ≡ c.args.self.now.buckets.entries ++ (c.args.request.now.key, c.take-ended.new.self) ∷ []
@@ -65,6 +73,7 @@ returns g c =
           (keys_put key c.args.request.now.key es c.insert.new.self.entries c.take-ended.new.self refl c.requires.absent added)
           (rw added (pools_end c.args.request.now.key es c.take-ended.new.self c.take-ended.new.budget.room c.args.budget.now.room (omega arith)))
           c.take-ended.ensures.bound c.take-ended.ensures.looks;
+      range = (refl, refl);
     }
 
 pub invariant_of-self-in-Ok : goal.invariant_of-self-in-Ok
@@ -75,6 +84,8 @@ invariant_of-self-in-Ok g c =
     ap stored_ids (put g (goal.at.invariant_of-self-in-Ok g c).In-Ok) ∙ map-append _ es _ ∙ ap (λ (n : ℕ). stored_ids es ++ n ∷ []) c.take-ended.ensures.id_stays in
     record {
       rising = ap (λ (l : List ℕ). rises (l ++ (next + 1) ∷ [])) ids ∙ rises_push (stored_ids es ++ next ∷ []) (next + 1) c.args.self.now.rising (let last = next_push (stored_ids es) next in omega arith);
+      begun = grind arith;
+      ranged = ap (list_all (is_id_of (c.args.self.now.first_id, c.args.self.now.end_id))) ids ∙ ranged_push (stored_ids es) next _ _ c.args.self.now.ranged c.args.self.now.begun (let left = c.if-self.false in omega arith);
       distinct = distinct_stored _ (λ k l. search rules) c.insert.new.self.entries c.insert.ensures.unique;
       flagged = c.args.self.now.flagged ∙ sym (ap count_flagged (put g (goal.at.invariant_of-self-in-Ok g c).In-Ok) ∙ flags_push es c.args.request.now.key c.take-ended.new.self c.take-ended.ensures.flag_stays);
     }
