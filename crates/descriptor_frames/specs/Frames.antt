@@ -10,7 +10,7 @@ use Rattle.gpu_descriptor.specs.Caller.Keeps.{Keeps}
 use Rattle.gpu_descriptor.specs.Model.Agreement.{AreOutstanding, Item, State, count_of, outstanding}
 use Rattle.gpu_descriptor.specs.Caller.Sets.{AreOfLayout, items_of}
 use Rattle.gpu_descriptor.specs.Caller.States.{Agrees, state_of}
-use Rattle.gpu_descriptor.specs.Caller.Values.{Allocations, all_ids, without_keys}
+use Rattle.gpu_descriptor.specs.Caller.Values.{Allocations, without_keys}
 use Rattle.gpu_descriptor.specs.declared.errors.AllocationError.{AllocationError}
 use Rattle.gpu_descriptor.specs.declared.set.DescriptorSet.{DescriptorSet}
 use Rattle.descriptor_frames.specs.Retired.{due, retired_sets}
@@ -82,9 +82,9 @@ module _ {P S : Type 0} where
         pub retired : AreRetiredOut new l
         pub used : LeavesUse old new l l items
 
-  -- a manager without sets, whose allocator has this limit. It may be used with any device
-  pub record IsNewManager (max : ℕ) (m : FrameManager P S) : Type 0 where
-    pub allocator : allocator_of m ≡ without_keys max all_ids
+  -- a manager without sets, whose allocator has this limit and these ids. It may be used with any device
+  pub record IsNewManager (max : ℕ) (ids : ℕ × ℕ) (m : FrameManager P S) : Type 0 where
+    pub allocator : allocator_of m ≡ without_keys max ids
     pub list : retired_of m ≡ []
     pub greatest : greatest_of m ≡ 0
     pub agree : (pool_name : P → ℕ) (l : Ledger) → Agrees pool_name (allocator_of m) l

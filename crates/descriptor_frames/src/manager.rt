@@ -2,6 +2,7 @@
 ghost use Rattle.std.specs.Prelude.{◌≡◌, ℕ, length};
 ghost use Rattle.gpu_descriptor_types.specs.Ledger.{Ledger};
 ghost use Rattle.gpu_descriptor.specs.Caller.States.{Agrees, outstanding_of};
+ghost use Rattle.gpu_descriptor.specs.Caller.Values.{all_ids};
 ghost use Rattle.descriptor_frames.specs.Retired.{AreInOrder};
 
 mod allocate;
@@ -36,7 +37,7 @@ impl<P, S> FrameManager<P, S> {
     /// A manager without sets, whose allocator has this limit on update-after-bind descriptors. It
     /// allocates no memory.
     pub fn new(alloc: Global, limit: u32) -> Self
-        ensures { IsNewManager limit result }
+        ensures { IsNewManager limit all_ids result }
     {
         FrameManager::with_ids(alloc, limit, 0..u64::MAX)
     }
@@ -44,7 +45,7 @@ impl<P, S> FrameManager<P, S> {
     /// Same as `new`, but the ids of its allocator's keys are from this range. See
     /// `DescriptorAllocator::with_ids`.
     pub fn with_ids(alloc: Global, limit: u32, ids: Range<u64>) -> Self
-        ensures { IsNewManager limit result }
+        ensures { IsNewManager limit (ids.start, ids.end) result }
     {
         FrameManager {
             allocator: DescriptorAllocator::with_ids(alloc, limit, ids),
