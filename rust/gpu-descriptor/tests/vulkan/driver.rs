@@ -1,14 +1,17 @@
 //! Four functions that write down with what they are called, and return what they are told. Their `unsafe`
 //! rests on calls that are made as Vulkan asks, with handles of `Driver::device`.
 
+use gpu_descriptor::DescriptorDevice;
 use gpu_descriptor::vulkan::raw::{
     AllocationCallbacks, DescriptorPoolCreateInfo, DescriptorPoolInlineUniformBlockCreateInfo,
     DescriptorSetAllocateInfo, DescriptorSetVariableDescriptorCountAllocateInfo,
 };
 use gpu_descriptor::vulkan::{
     DescriptorPool, DescriptorSet, DescriptorSetLayout, Device, DeviceHandle, Functions,
+    VariableDevice, VariableLayout,
 };
 use std::cell::{Cell, RefCell};
+use std::fmt::Debug;
 use std::ptr;
 use std::slice;
 
@@ -65,6 +68,11 @@ impl Driver {
         unsafe { Device::new(handle, FUNCTIONS) }
     }
 
+    /// One of both devices over this state.
+    pub fn over<D: EachDevice>(&self) -> D {
+        D::over(self.device())
+    }
+
     pub fn take_calls(&self) -> Vec<Call> {
         self.calls.take()
     }
@@ -78,6 +86,49 @@ impl Driver {
         self.calls.borrow_mut().push(call);
     }
 }
+
+/// A device and a variable device. A test of one is a test of both.
+pub trait EachDevice:
+    DescriptorDevice<<Self as EachDevice>::Layout, DescriptorPool, DescriptorSet>
+{
+    type Layout: From<DescriptorSetLayout> + Debug;
+
+    fn over(device: Device) -> Self;
+    fn device(&self) -> &Device;
+}
+
+impl EachDevice for Device {
+    type Layout = DescriptorSetLayout;
+
+    fn over(device: Device) -> Self {
+        device
+    }
+
+    fn device(&self) -> &Device {
+        self
+    }
+}
+
+impl EachDevice for VariableDevice {
+    type Layout = VariableLayout;
+
+    fn over(device: Device) -> Self {
+        VariableDevice(device)
+    }
+
+    fn device(&self) -> &Device {
+        &self.0
+    }
+}
+
+/// Runs a generic test over both.
+macro_rules! each_device {
+    ($test:ident) => {
+        $test::<gpu_descriptor::vulkan::Device>();
+        $test::<gpu_descriptor::vulkan::VariableDevice>();
+    };
+}
+pub(crate) use each_device;
 
 pub const FUNCTIONS: Functions = Functions {
     create_descriptor_pool,
@@ -172,9 +223,9 @@ pub unsafe extern "system" fn free_descriptor_sets(
     0
 }
 
-/// Layouts, no two the same.
-pub fn layouts(count: usize) -> Vec<DescriptorSetLayout> {
+/// Layouts, no two the same, without variable counts.
+pub fn layouts<L: From<DescriptorSetLayout>>(count: usize) -> Vec<L> {
     (1..=count as u64)
-        .map(|it| DescriptorSetLayout(it << 33))
+        .map(|it| DescriptorSetLayout(it << 33).into())
         .collect()
 }

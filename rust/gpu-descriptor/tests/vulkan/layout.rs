@@ -12,7 +12,8 @@ fn handles_have_64_bits_and_a_device_is_a_pointer() {
     assert_eq!(size_of::<DescriptorPool>(), 8);
     assert_eq!(size_of::<DescriptorSet>(), 8);
     assert_eq!(size_of::<DeviceHandle>(), size_of::<*const ()>());
-    assert_eq!(DeviceHandle::from_raw(0x7_0000).0.addr(), 0x7_0000);
+    let raw = 0x7_0000 << (usize::BITS / 2); // above 2^32 where pointers have 64 bits
+    assert_eq!(DeviceHandle::from_raw(raw as u64).0.addr(), raw);
     assert_eq!(DescriptorSet::default(), DescriptorSet(0));
 }
 

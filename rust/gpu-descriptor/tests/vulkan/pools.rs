@@ -1,25 +1,38 @@
 //! How pools are created and destroyed.
 
-use crate::driver::{Call, Driver, Pool};
-use gpu_descriptor::vulkan::{DescriptorPool, Device};
+use crate::driver::{Call, Driver, EachDevice, Pool, each_device};
+use gpu_descriptor::vulkan::{DescriptorPool, Device, VariableDevice};
 use gpu_descriptor::*;
 use std::mem::MaybeUninit;
 use std::ptr::NonNull;
 
-fn create(device: &Device, counts: &DescriptorTotalCount, flags: DescriptorPoolCreateFlags) {
+fn create(
+    device: &impl EachDevice,
+    counts: &DescriptorTotalCount,
+    flags: DescriptorPoolCreateFlags,
+) {
     // SAFETY: the functions are the test's.
     let pool = unsafe { device.create_descriptor_pool(counts, 70, flags) };
     assert_ne!(pool, Ok(DescriptorPool(0)));
 }
 
-/// What a pool of these counts is created from.
-fn created(counts: &DescriptorTotalCount, flags: DescriptorPoolCreateFlags) -> Pool {
+fn created_by<D: EachDevice>(
+    counts: &DescriptorTotalCount,
+    flags: DescriptorPoolCreateFlags,
+) -> Pool {
     let driver = Driver::new();
-    create(&driver.device(), counts, flags);
+    create(&driver.over::<D>(), counts, flags);
     match driver.take_calls().as_slice() {
         [Call::Create(pool, 0)] => pool.clone(),
         calls => panic!("{calls:?}"),
     }
+}
+
+/// What a pool of these counts is created from, by both devices.
+fn created(counts: &DescriptorTotalCount, flags: DescriptorPoolCreateFlags) -> Pool {
+    let pool = created_by::<Device>(counts, flags);
+    assert_eq!(created_by::<VariableDevice>(counts, flags), pool);
+    pool
 }
 
 #[test]
@@ -106,22 +119,36 @@ fn flags_have_their_numbers() {
     }
 }
 
-#[test]
-fn callbacks_are_passed_to_both_calls() {
+fn callbacks<D: EachDevice>() {
     let driver = Driver::new();
     let mut callbacks = MaybeUninit::<[usize; 6]>::uninit();
     let callbacks = NonNull::from(&mut callbacks).cast();
     // SAFETY: the test's functions don't call them.
-    let device = unsafe { driver.device().with_allocation_callbacks(callbacks) };
+    let device = unsafe {
+        driver
+            .device()
+            .with_allocation_callbacks(NonNull::dangling())
+    };
+    // SAFETY: as above. They replace the first ones.
+    let device = D::over(unsafe { device.with_allocation_callbacks(callbacks) });
     create(
         &device,
         &Default::default(),
         DescriptorPoolCreateFlags::empty(),
     );
     unsafe { device.destroy_descriptor_pool(DescriptorPool(77)) };
-    unsafe { driver.device().destroy_descriptor_pool(DescriptorPool(78)) };
+    unsafe {
+        driver
+            .over::<D>()
+            .destroy_descriptor_pool(DescriptorPool(78))
+    };
     let place = callbacks.addr().get();
     let calls = driver.take_calls();
     assert!(matches!(&calls[0], Call::Create(_, at) if *at == place));
     assert_eq!(calls[1..], [Call::Destroy(77, place), Call::Destroy(78, 0)]);
+}
+
+#[test]
+fn callbacks_are_passed_to_both_calls() {
+    each_device!(callbacks);
 }

@@ -1,6 +1,6 @@
 //! What each `VkResult` becomes.
 
-use crate::driver::{Call, Driver, layouts};
+use crate::driver::{Call, Driver, EachDevice, each_device, layouts};
 use gpu_descriptor::manager::{RequestError, SetManager};
 use gpu_descriptor::vulkan::{DescriptorPool, DescriptorSet, DescriptorSetLayout, Device};
 use gpu_descriptor::*;
@@ -63,35 +63,43 @@ fn is_lost(result: i32) -> bool {
     result == -4
 }
 
-#[test]
-fn of_a_new_pool() {
+fn of_a_pool<D: EachDevice>() {
     for (result, error, ..) in ROWS {
         let driver = Driver::new();
         driver.create_result.set(result);
         let flags = DescriptorPoolCreateFlags::empty();
-        let device = driver.device();
+        let device: D = driver.over();
         let answer = unsafe { device.create_descriptor_pool(&Default::default(), 1, flags) };
         assert_eq!(answer, Err(error), "{result}");
-        assert_eq!(device.is_lost(), is_lost(result), "{result}");
+        assert_eq!(device.device().is_lost(), is_lost(result), "{result}");
     }
 }
 
 #[test]
-fn of_sets() {
+fn of_a_new_pool() {
+    each_device!(of_a_pool);
+}
+
+fn of_new_sets<D: EachDevice>() {
     for (result, _, error, _) in ROWS {
         for count in [1, 100] {
             let driver = Driver::new();
             driver.allocate_result.set(result);
-            let (wanted, mut sets) = (layouts(count), Vec::<DescriptorSet>::new());
-            let device = driver.device();
+            let (wanted, mut sets) = (layouts::<D::Layout>(count), Vec::<DescriptorSet>::new());
+            let device: D = driver.over();
             let answer = unsafe {
                 let (pool, layouts) = (&mut DescriptorPool(5), wanted.iter());
                 device.alloc_descriptor_sets(pool, layouts, &mut sets)
             };
             assert_eq!((answer, sets), (Err(error), vec![]), "{result}");
-            assert_eq!(device.is_lost(), is_lost(result), "{result}");
+            assert_eq!(device.device().is_lost(), is_lost(result), "{result}");
         }
     }
+}
+
+#[test]
+fn of_sets() {
+    each_device!(of_new_sets);
 }
 
 fn layout() -> SetLayout<DescriptorSetLayout> {
@@ -100,9 +108,8 @@ fn layout() -> SetLayout<DescriptorSetLayout> {
         ..Default::default()
     };
     let flags = DescriptorSetLayoutCreateFlags::empty();
-    let layout = layouts(1)[0];
     SetLayout {
-        layout,
+        layout: DescriptorSetLayout(1 << 33),
         counts,
         flags,
     }

@@ -1,23 +1,23 @@
 //! How sets are allocated and released.
 
-use crate::driver::{Call, Driver, layouts};
+use crate::driver::{Call, Driver, EachDevice, each_device, layouts};
 use gpu_descriptor::vulkan::{DescriptorPool, DescriptorSet, DescriptorSetLayout};
 use gpu_descriptor::*;
 
-#[test]
-fn sets_of_one_request_are_from_one_call_in_order() {
+fn in_order<D: EachDevice>() {
     for count in [1, 2, 31, 32, 33, 500, 5_000] {
-        let (driver, wanted) = (Driver::new(), layouts(count));
+        let (driver, wanted) = (Driver::new(), layouts::<D::Layout>(count));
         let mut sets = vec![DescriptorSet(9)];
         let mut pool = DescriptorPool(5);
         // SAFETY: the functions are the test's.
         let answer = unsafe {
             let layouts = wanted.iter();
             driver
-                .device()
+                .over::<D>()
                 .alloc_descriptor_sets(&mut pool, layouts, &mut sets)
         };
         assert_eq!(answer, Ok(()));
+        let wanted = layouts::<DescriptorSetLayout>(count);
         let wanted = wanted.iter().map(|layout| layout.0).collect();
         assert_eq!(driver.take_calls(), [Call::Allocate(5, wanted)]);
         let granted = (1..=count as u64).map(|it| DescriptorSet(0x5000_0000_0000 + 16 * it));
@@ -27,9 +27,13 @@ fn sets_of_one_request_are_from_one_call_in_order() {
 }
 
 #[test]
-fn for_no_sets_no_call_is_made() {
+fn sets_of_one_request_are_from_one_call_in_order() {
+    each_device!(in_order);
+}
+
+fn for_no_sets<D: EachDevice>() {
     let driver = Driver::new();
-    let (device, mut pool, mut sets) = (driver.device(), DescriptorPool(5), Vec::new());
+    let (device, mut pool, mut sets) = (driver.over::<D>(), DescriptorPool(5), Vec::new());
     unsafe {
         let answer = device.alloc_descriptor_sets(&mut pool, [].iter(), &mut sets);
         assert_eq!(answer, Ok(()));
@@ -39,7 +43,11 @@ fn for_no_sets_no_call_is_made() {
 }
 
 #[test]
-fn a_release_is_split_after_128_sets() {
+fn for_no_sets_no_call_is_made() {
+    each_device!(for_no_sets);
+}
+
+fn a_release<D: EachDevice>() {
     for (count, parts) in [
         (1, vec![1]),
         (127, vec![127]),
@@ -52,7 +60,7 @@ fn a_release_is_split_after_128_sets() {
         let released = sets.iter().map(|set| DescriptorSet(*set));
         unsafe {
             driver
-                .device()
+                .over::<D>()
                 .dealloc_descriptor_sets(&mut DescriptorPool(5), released);
         }
         let mut rest = sets.as_slice();
@@ -65,6 +73,11 @@ fn a_release_is_split_after_128_sets() {
     }
 }
 
+#[test]
+fn a_release_is_split_after_128_sets() {
+    each_device!(a_release);
+}
+
 /// Pools that live and sets that live, from calls that were all granted.
 fn left(calls: &[Call]) -> (i64, i64) {
     calls.iter().fold((0, 0), |(pools, sets), call| match call {
@@ -75,10 +88,9 @@ fn left(calls: &[Call]) -> (i64, i64) {
     })
 }
 
-#[test]
-fn an_allocator_frees_all() {
+fn frees_all<D: EachDevice>() {
     let driver = Driver::new();
-    let (device, layout) = (driver.device(), DescriptorSetLayout(7));
+    let (device, layout) = (driver.over::<D>(), DescriptorSetLayout(7).into());
     let mut allocator = DescriptorAllocator::new(1000);
     let counts = vulkan::count_bindings([(vulkan::DescriptorType::SAMPLED_IMAGE, 2)]).unwrap();
     let flags = DescriptorSetLayoutCreateFlags::UPDATE_AFTER_BIND;
@@ -99,4 +111,9 @@ fn an_allocator_frees_all() {
     };
     assert_eq!((pool.flags, pool.max_sets), (3, 500));
     assert_eq!(pool.sizes, [(2, 1000)]);
+}
+
+#[test]
+fn an_allocator_frees_all() {
+    each_device!(frees_all);
 }

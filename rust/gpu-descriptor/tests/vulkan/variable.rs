@@ -43,7 +43,7 @@ fn sets_of_each_count() {
         panic!("a pool and a request");
     };
     assert_eq!(pool.sizes, [(2, 100 * pool.max_sets), (6, pool.max_sets)]);
-    assert_eq!(layouts, &[LAYOUT.0; 40]);
+    assert_eq!((layouts, pool.flags), (&vec![LAYOUT.0; 40], 3));
     let other = manager.allocate(fixed).unwrap();
     assert_eq!(driver.variable_counts.take(), None);
     // Sets are kept for their count alone.
@@ -59,8 +59,13 @@ fn sets_of_each_count() {
         // SAFETY: as above.
         unsafe { manager.free(held) }.unwrap();
     }
+    driver.take_calls();
+    let pools = manager.statistics().pools;
     // SAFETY: as above.
     unsafe { manager.shutdown() };
+    let calls = driver.take_calls();
+    let destroyed = calls.iter().filter(|it| matches!(it, Call::Destroy(..)));
+    assert_eq!(destroyed.count() as u64, pools);
 }
 
 /// A request of several layouts, which only a caller of the device makes.
