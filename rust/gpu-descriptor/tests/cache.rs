@@ -1,7 +1,10 @@
 //! Caches of sets over a set manager: what they allocate and free, what they do if it refuses, and threads.
 
+mod refuses;
+
 use gpu_descriptor::manager::{FreeError, LayoutHandle, RequestError, SetCache, SetManager};
 use gpu_descriptor::*;
+use refuses::with_refused;
 use std::cell::Cell;
 use std::sync::Mutex;
 
@@ -45,6 +48,26 @@ impl DescriptorDevice<u64, u64, u64> for Device {
 
     unsafe fn dealloc_descriptor_sets(&self, _: &mut u64, sets: impl Iterator<Item = u64>) {
         self.sets.set(self.sets.get() - sets.count());
+    }
+}
+
+/// A cache of `refill` sets, with a refusal of the memory that is asked for by this number. Returns how often memory was
+/// asked for, too.
+fn new(refill: usize, refused: u64) -> (Result<SetCache<u64>, RequestError>, u64) {
+    let (_, layout) = manager(1);
+    with_refused(refused, || SetCache::new(layout, refill))
+}
+
+#[test]
+fn a_cache_without_memory() {
+    const NO_MEMORY: RequestError = RequestError::Allocation(AllocationError::OutOfHostMemory);
+    let (made, allocations) = new(100, u64::MAX);
+    assert_eq!((made.unwrap().count(), allocations), (0, 2));
+    for refused in 0..2 {
+        assert_eq!(new(100, refused).0.unwrap_err(), NO_MEMORY);
+    }
+    for refill in [usize::MAX / 2 + 1, usize::MAX] {
+        assert_eq!(new(refill, u64::MAX).0.unwrap_err(), NO_MEMORY);
     }
 }
 

@@ -247,15 +247,35 @@ fn a_drop_warns_once() {
     );
 }
 
+/// A program that names no feature has std, and no bound on pools.
+#[test]
+fn std_alone_is_the_default() {
+    let manifest = include_str!("../Cargo.toml");
+    let defaults: Vec<_> = manifest
+        .lines()
+        .filter(|it| it.starts_with("default"))
+        .collect();
+    assert_eq!(defaults, ["default = [\"std\"]"]);
+}
+
 /// A set shows whose it is.
 #[test]
 fn ids_tell_allocators_apart() {
     let device = Gpu::new();
-    let (mut first, second) = (Allocator::new(0), Allocator::new(0));
+    let (mut first, mut second) = (Allocator::new(0), Allocator::new(0));
     let flags = DescriptorSetLayoutCreateFlags::empty();
     let sets = unsafe { first.allocate(&device, &0, flags, &samplers(1), 1) }.unwrap();
     assert!(sets[0].has_id_in(&first.ids()));
     assert!(!sets[0].has_id_in(&second.ids()));
+    let others = unsafe { second.allocate(&device, &0, flags, &samplers(1), 1) }.unwrap();
+    assert!(others[0].has_id_in(&second.ids()) && !others[0].has_id_in(&first.ids()));
+    // Ids don't come again soon.
+    for _ in 0..1000 {
+        let later = Allocator::new(0).ids();
+        assert!(!sets[0].has_id_in(&later) && !others[0].has_id_in(&later));
+    }
+    unsafe { second.free(&device, others) };
+    unsafe { second.cleanup(&device) };
     unsafe { first.free(&device, sets) };
     unsafe { first.cleanup(&device) };
 }

@@ -5,7 +5,7 @@ mod gpu;
 mod refuses;
 
 use gpu::{Gpu, Set, layout};
-use gpu_descriptor::manager::{LayoutHandle, RequestError, SetHandle, SetManager};
+use gpu_descriptor::manager::{FreeError, LayoutHandle, RequestError, SetHandle, SetManager};
 use gpu_descriptor::{DescriptorSetLayoutCreateFlags, DescriptorTotalCount, SetLayout};
 use refuses::{bytes, calls, counted, refuse, with_refused};
 use std::collections::HashSet;
@@ -72,6 +72,26 @@ fn a_removed_handle_is_invalid() {
     }
     shutdown(&gpu, it);
     shutdown(&other_gpu, other);
+}
+
+/// The numbers that mark handles don't come again soon. Each set manager here has a layout and a set at the same place.
+#[test]
+fn handles_of_a_thousand_set_managers() {
+    let (gpu, other_gpu) = (Gpu::new(), Gpu::new());
+    let mut it = SetManager::new(&gpu, 10_000);
+    let layout = add(&mut it, 0);
+    let set = it.allocate(layout).unwrap();
+    for _ in 0..1000 {
+        let mut other = SetManager::new(&other_gpu, 10_000);
+        let own = add(&mut other, 0);
+        let held = other.allocate(own).unwrap();
+        assert!(other.layout(layout).is_none() && other.set(set).is_none());
+        // SAFETY: no frame in flight reads one.
+        assert_eq!(unsafe { other.free(&[set]) }, Err(FreeError::NoSet));
+        assert!(other.set(held).is_some());
+        shutdown(&other_gpu, other);
+    }
+    shutdown(&gpu, it);
 }
 
 /// The next layout has the counts of the removed one, so its sets are in the same pools.

@@ -10,6 +10,8 @@ use gpu_descriptor::*;
 use refuses::{calls, counted};
 use std::fmt;
 
+include!("numbers/device.rs");
+
 /// One of the next calls is refused.
 fn refuse_soon(device: &Gpu, random: &mut Random) {
     device.faulty.set(device.calls.get() + random.below(6));
@@ -177,6 +179,52 @@ fn all_kinds() -> SetLayout<u32> {
         counts,
         flags: DescriptorSetLayoutCreateFlags::empty(),
     }
+}
+
+/// More pools and layouts than a byte counts.
+#[test]
+fn numbers_of_many_pools_and_layouts() {
+    let gpu = Gpu::new();
+    let mut it = SetManager::new(&gpu, u32::MAX);
+    let handles: Vec<_> = (0..300).map(|_| add(&mut it, layout(1))).collect();
+    // Two sets a pool.
+    let sets = it.allocate_many(handles[7], 600).unwrap();
+    let numbers = it.layout_statistics(handles[7]).unwrap();
+    assert_eq!((numbers.pools, numbers.pool_sets_used), (300, 600));
+    let all = it.statistics();
+    assert_eq!((all.layouts, all.pools, all.pool_sets), (300, 300, 600));
+    let mut text = String::new();
+    it.write_statistics(&mut text, |_| 7).unwrap();
+    assert_eq!(text.matches("\"handle\": ").count(), 300);
+    // SAFETY: no frame is in flight.
+    unsafe { it.free(&sets) }.unwrap();
+    unsafe { it.shutdown() };
+    assert!(gpu.is_empty());
+}
+
+#[test]
+fn numbers_of_a_large_pool() {
+    const SETS: u32 = 100_000; // more than 16 bits count
+    let mut it = SetManager::new(Device::default(), 0);
+    it.set_max_pool_descriptors(None);
+    let layout = SetLayout {
+        layout: 0_u64,
+        counts: layout(0).counts,
+        flags: DescriptorSetLayoutCreateFlags::empty(),
+    };
+    // SAFETY: the device knows no layouts.
+    let layout = unsafe { it.add_layout(layout) }.unwrap();
+    let sets = it.allocate_many(layout, SETS).unwrap();
+    let (all, numbers) = (it.statistics(), it.layout_statistics(layout).unwrap());
+    assert_eq!((all.pools, numbers.pools), (1, 1));
+    assert_eq!(numbers.pool_sets_used, u64::from(SETS));
+    assert_eq!(
+        all.pool_sets,
+        numbers.pool_sets_used + numbers.pool_sets_free
+    );
+    assert_eq!(all.outstanding, sets.len() as u64);
+    // SAFETY: no frame is in flight.
+    unsafe { it.shutdown() };
 }
 
 /// What `gd_write_statistics` writes of the same calls.
