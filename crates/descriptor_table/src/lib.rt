@@ -5,6 +5,7 @@
 mod group;
 mod handle;
 mod handle_table;
+pub mod laws;
 mod lists;
 mod set_table;
 mod slot;
