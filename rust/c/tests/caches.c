@@ -16,6 +16,7 @@ enum { THREADS = 4, TURNS = 4000, MAX = 20, LEFT = 32 };
 
 // Not atomic: the allocator lets one call in at a time. `max_sets` is how many there may be.
 static uint64_t next_handle = UINT64_C(1) << 40, sets_alive, max_sets = UINT64_MAX, allocations, releases;
+static gd_status refusal = GD_OUT_OF_DEVICE_MEMORY;
 static gd_cache *flushed_inside; // in the next call of the device
 
 static gd_status create_pool(void *user, const gd_pool_info *info, uint64_t *pool) {
@@ -36,7 +37,7 @@ static gd_status allocate_sets(void *user, uint64_t pool, uint32_t count, const 
         flushed_inside = NULL;
     }
     if (sets_alive + count > max_sets)
-        return GD_OUT_OF_DEVICE_MEMORY;
+        return refusal;
     allocations++;
     sets_alive += count;
     for (uint32_t at = 0; at < count; at++)
@@ -116,23 +117,24 @@ static void refill_and_give_back(uint32_t refill) {
 }
 
 // If a refill is refused, fewer sets are requested, down to the missing ones; then it fails, and nothing is lost.
-static void ask_for_fewer(void) {
+static void ask_for_fewer(gd_status refused) {
+    refusal = refused;
     gd_set places[2 * GD_CACHE_REFILL], sets[GD_CACHE_REFILL];
     begin();
     gd_cache cache = cache_of(places, GD_CACHE_REFILL);
     max_sets = 10;
     CHECK(gd_cache_allocate(&cache, 1, sets) == GD_OK && sets_alive == 8 && cache.count == 7);
     CHECK(gd_cache_allocate(&cache, 6, sets + 1) == GD_OK && cache.count == 1);
-    CHECK(gd_cache_allocate(&cache, 4, sets + 7) == GD_OUT_OF_DEVICE_MEMORY && cache.count == 1 && sets_alive == 8);
+    CHECK(gd_cache_allocate(&cache, 4, sets + 7) == refused && cache.count == 1 && sets_alive == 8);
     for (uint32_t at = 7; at < 11; at++)
         CHECK(sets[at].owner == 0 && sets[at].handle == 0);
     CHECK(gd_cache_allocate(&cache, 3, sets + 7) == GD_OK && cache.count == 0 && sets_alive == 10);
-    CHECK(gd_cache_allocate(&cache, 1, sets + 10) == GD_OUT_OF_DEVICE_MEMORY && sets[10].owner == 0);
+    CHECK(gd_cache_allocate(&cache, 1, sets + 10) == refused && sets[10].owner == 0);
     max_sets = 11;
     CHECK(gd_cache_allocate(&cache, 1, sets + 10) == GD_OK && cache.count == 0);
     // As many as a refill are asked for alone, and what was in the cache stays there.
     CHECK(gd_cache_free(&cache, sets, 11) == GD_OK && cache.count == 11);
-    CHECK(gd_cache_allocate(&cache, GD_CACHE_REFILL, sets) == GD_OUT_OF_DEVICE_MEMORY && cache.count == 11);
+    CHECK(gd_cache_allocate(&cache, GD_CACHE_REFILL, sets) == refused && cache.count == 11);
     CHECK(gd_cache_allocate(&cache, 11, sets) == GD_OK && gd_cache_free(&cache, sets, 11) == GD_OK);
     CHECK(gd_cache_flush(&cache) == GD_OK);
     end();
@@ -261,7 +263,8 @@ int main(int words, char **word) {
     refill_and_give_back(1);
     refill_and_give_back(7);
     refill_and_give_back(GD_CACHE_REFILL);
-    ask_for_fewer();
+    ask_for_fewer(GD_OUT_OF_DEVICE_MEMORY);
+    ask_for_fewer(GD_DEVICE_LOST);
     free_wrongly();
     share();
     printf("no set is lost in %llu calls of %d threads\n", (unsigned long long)calls, THREADS);

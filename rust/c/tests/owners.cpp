@@ -4,10 +4,31 @@
 #include <cstdio>
 #include <cstdlib>
 #include <functional>
+#include <new>
 #include <thread>
 #include <vector>
 
 #define CHECK(fact) ((fact) ? void() : fail(__LINE__, #fact))
+
+// Arrays are allocated by these, so that a test can refuse one.
+static bool has_memory = true;
+
+void *operator new[](std::size_t size, const std::nothrow_t &) noexcept {
+    return has_memory ? std::malloc(size) : nullptr;
+}
+
+void *operator new[](std::size_t size) {
+    void *const block = operator new[](size, std::nothrow);
+    return block != nullptr ? block : throw std::bad_alloc();
+}
+
+void operator delete[](void *block) noexcept {
+    std::free(block);
+}
+
+void operator delete[](void *block, std::size_t) noexcept {
+    std::free(block);
+}
 
 namespace {
 
@@ -141,6 +162,10 @@ void end_after_the_current_frame() {
     replaced.used_in(6); // an earlier one than the current frame
     CHECK(replaced.reset() == GD_OK && it.allocator.frame_done(8) == GD_OK && it.waiting() == 4);
     CHECK(it.allocator.frame_done(9) == GD_OK && it.device.sets == 0);
+    // The current frame may be an earlier one than the last.
+    gd::set early = it.one();
+    CHECK(it.allocator.begin_frame(4) == GD_OK && early.reset() == GD_OK);
+    CHECK(it.allocator.frame_done(4) == GD_OK && it.device.sets == 0);
     gd::allocator none;
     CHECK(none.begin_frame(1) == GD_BAD_ALLOCATOR);
 }
@@ -289,6 +314,22 @@ void own_batches() {
     CHECK(gd_free_all(it.allocator.raw()) == GD_OK && many.free() == GD_BAD_SET && many.size() == 0);
 }
 
+// Without memory for their array sets and frames have what they had, and the status says so.
+void allocate_without_memory() {
+    room it;
+    gd::sets many;
+    gd::frame frame(it.allocator, 3);
+    gd_set drawn{1, 2, 3};
+    CHECK(it.allocator.allocate(it.layout, 3, many) == GD_OK);
+    has_memory = false;
+    const gd_status of_sets = it.allocator.allocate(it.layout, 5, many), of_frame = frame.allocate(it.layout, drawn);
+    has_memory = true;
+    CHECK(of_sets == GD_OUT_OF_HOST_MEMORY && many.size() == 3 && many[2].name != 0);
+    CHECK(of_frame == GD_OUT_OF_HOST_MEMORY && frame.size() == 0 && drawn.name == 0 && it.device.sets == 3);
+    CHECK(it.allocator.allocate(it.layout, 0, many) == GD_OK && many.size() == 0 && it.waiting() == 3);
+    CHECK(frame.allocate(it.layout, drawn) == GD_OK && frame.size() == 1);
+}
+
 // If sets of a batch or a frame were freed elsewhere, the others are freed all the same.
 void free_the_others() {
     room it;
@@ -368,6 +409,7 @@ void call_by_short_names() {
     gd::sets many;
     CHECK(it.allocator.set_max_kept(2) == GD_OK && it.allocator.allocate(it.layout, 70, many) == GD_OK);
     CHECK(many.free() == GD_OK && it.allocator.statistics(numbers) == GD_OK && numbers.kept == 2);
+    CHECK(it.allocator.trim() == GD_OK && it.device.sets == 2 && it.device.pools == 1);
     CHECK(numbers.pools == 1 && it.allocator.cleanup() == GD_OK && it.device.sets == 0 && it.device.pools == 0);
     CHECK(it.allocator.set_max_kept(0) == GD_OK && it.allocator.allocate(it.layout, 1, many) == GD_OK && many.free() == GD_OK);
     CHECK(it.device.pools == 1 && it.allocator.trim() == GD_OK && it.device.pools == 0);
@@ -522,6 +564,7 @@ int main(int words, char **) {
     own_a_handle_of_zero();
     own_batches();
     free_batches_that_were_used();
+    allocate_without_memory();
     free_the_others();
     draw_frames();
     grow_frames();

@@ -249,6 +249,8 @@ static void write_without_layouts(void) {
                 "\"pool_descriptors\": 0, \"peak_pools\": 0, \"peak_pool_sets\": 0, \"peak_pool_descriptors\": 0, "
                 "\"update_after_bind_capacity\": 0, \"update_after_bind_limit\": 0, "
                 "\"max_pool_descriptors\": null, \"layouts\": []}");
+    CHECK(gd_allocator_set_max_pool_descriptors(allocator, UINT64_MAX - 1) == GD_OK);
+    expect_numbers(allocator, (gd_statistics){.max_pool_descriptors = UINT64_MAX - 1});
     CHECK(gd_write_statistics(allocator, NULL, 1, &length) == GD_NULL_POINTER && length == 77);
     CHECK(gd_write_statistics(allocator, text, sizeof text, NULL) == GD_NULL_POINTER);
     CHECK(gd_get_statistics(allocator, NULL) == GD_NULL_POINTER);

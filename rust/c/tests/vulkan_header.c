@@ -312,6 +312,12 @@ static void count_without_pointers(void) {
     CHECK(gdv_add_variable_layout(none, handle, NULL, 5, &layout) == GD_NULL_POINTER && layout.index == 77);
 }
 
+static gd_status refuse_variable_sets(void *user, uint64_t pool, uint32_t count, const uint64_t *layouts,
+                                      const uint32_t *variable_counts, uint64_t *handles) {
+    (void)user, (void)pool, (void)count, (void)layouts, (void)variable_counts, (void)handles;
+    return GD_OUT_OF_HOST_MEMORY;
+}
+
 // Sets of each count have it, in pools of their own, and are kept for their count alone.
 static void allocate_variable(void) {
     gdv_device vulkan = functions();
@@ -330,6 +336,10 @@ static void allocate_variable(void) {
     // The same handle and counts without a variable count: another layout.
     CHECK(gd_add_layout(allocator, GDV_NUMBER(handle), counts, GD_UPDATE_AFTER_BIND, &fixed) == GD_OK);
     CHECK(fixed.index != small.index);
+    // The function that was set last is called.
+    CHECK(gd_allocator_set_allocate_variable_sets(allocator, refuse_variable_sets) == GD_OK);
+    CHECK(gd_allocate(allocator, small, 1, &one) == GD_OUT_OF_HOST_MEMORY && pools == 0);
+    CHECK(gd_allocator_set_allocate_variable_sets(allocator, gdv_allocate_variable_sets) == GD_OK);
     CHECK(gd_allocate(allocator, small, 70, sets) == GD_OK && has_variable_count && variable_count == 100);
     CHECK(pool_images == 128 * 100 && pools == 1 && sets_alive == 70);
     CHECK(gd_allocate(allocator, fixed, 1, &one) == GD_OK && !has_variable_count && pools == 1);

@@ -1,6 +1,6 @@
 //! The version and the statuses are those of the header.
 
-use super::{ABI, GdStatus};
+use super::{ABI, FINGERPRINT, GdStatus};
 use crate::exports::gd_version;
 
 const TEXT: &str = include_str!("../../include/gpu_descriptor.h");
@@ -22,6 +22,17 @@ fn the_version_is_the_headers() {
     let parts = ["MAJOR", "MINOR", "PATCH"].map(|part| number_of(&format!("GD_VERSION_{part}")));
     assert_eq!(gd_version(), parts[0] << 22 | parts[1] << 12 | parts[2]);
     assert_eq!(ABI, u64::from(number_of("GD_ABI")));
+}
+
+/// A struct that the fingerprint leaves out could change its size unnoticed.
+#[cfg(target_pointer_width = "64")]
+#[test]
+fn the_fingerprint_has_each_size() {
+    assert_eq!(
+        FINGERPRINT.to_be_bytes(),
+        [32, 5, 104, 40, 64, 16, 16, 24],
+        "statistics of a layout, ABI, statistics, device, pool, allocator, layout, set"
+    );
 }
 
 /// Each status of the header, except those of other headers, has its number here.
