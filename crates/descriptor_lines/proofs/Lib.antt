@@ -3,6 +3,7 @@ pub mod EndLemmas
 pub mod LineLemmas
 pub mod NameLemmas
 pub mod NumberLemmas
+pub mod OneCommand
 pub mod ReplyLemmas
 pub mod SessionLemmas
 pub mod ShownLemmas

@@ -15,8 +15,9 @@ pub use device::DescriptorDevice;
 pub use errors::{CreatePoolError, DeviceAllocationError};
 pub use flags::DescriptorPoolCreateFlags;
 pub use layouts::Layouts;
+#[allow(unused_imports)]
 pub use pool_size::{
     bounded_pool_sets, counts_of_sets, cut_pool_sets,
-    greatest_count, pool_sets_for_greatest,
+    greatest_count, new_pool_size, pool_sets_for_greatest,
 };
 pub use sink::SetSink;

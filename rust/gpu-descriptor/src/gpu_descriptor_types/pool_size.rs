@@ -9,6 +9,13 @@ const MIN_SETS: u32 = 64;
 /// The max of a key's live sets that count towards the size of its next pool.
 const MAX_SETS: u32 = 512;
 
+/// How many sets a new pool for sets of these counts holds. See `pool_sets_for_greatest`.
+#[allow(dead_code)]
+pub fn new_pool_sets(counts: &DescriptorTotalCount, total: u64, wanted: u32) -> u32
+{
+    pool_sets_for_greatest(greatest_count(counts), total, wanted)
+}
+
 /// How many sets a new pool holds, if `greatest` is the greatest of a set's counts.
 ///
 /// `total` is the number of the key's live sets, and `wanted` that of the sets still needed. The pool
@@ -21,6 +28,19 @@ const MAX_SETS: u32 = 512;
 pub fn pool_sets_for_greatest(greatest: u32, total: u64, wanted: u32) -> u32
 {
     cut_to(rounded_up(start_size(total, wanted)), greatest)
+}
+
+/// The size of a new pool for sets of these counts: the pool's counts, and how many sets it holds. A
+/// pool for sets without descriptors has one sampler. See `new_pool_sets`.
+#[allow(dead_code)]
+pub fn new_pool_size(
+    counts: &DescriptorTotalCount,
+    total: u64,
+    wanted: u32,
+) -> (DescriptorTotalCount, u32)
+{
+    let sets = new_pool_sets(counts, total, wanted);
+    (counts_of_sets(counts, sets), sets)
 }
 
 /// How many of `sets` sets a pool with at most `room` descriptors may hold; `None` if not even one set

@@ -7,7 +7,7 @@ use crate::descriptor_lines::command::Command;
 use crate::descriptor_lines::device::LineDevice;
 use crate::descriptor_lines::layouts::Layout;
 use crate::descriptor_script::{Answer, Command as SessionCommand, Reply, ScriptLayout, Session};
-use crate::gpu_descriptor_types::{counts_of_sets, greatest_count, pool_sets_for_greatest};
+use crate::gpu_descriptor_types::new_pool_size;
 use crate::kit::alloc::AllocError;
 use crate::kit::string::String;
 use crate::kit::vec::Vec;
@@ -28,8 +28,8 @@ impl<D: LineDevice> Program<D> {
                 total,
                 wanted,
             } => {
-                let sets = pool_sets_for_greatest(greatest_count(&counts), total, wanted);
-                answer::size_answer(answer, &counts_of_sets(&counts, sets), sets)
+                let (counts, sets) = new_pool_size(&counts, total, wanted);
+                answer::size_answer(answer, &counts, sets)
             }
             Command::Script { script } => self.load(script, answer),
             Command::Alloc { layout, count } => {
@@ -86,12 +86,13 @@ impl<D: LineDevice> Program<D> {
     {
         // The answer has its memory before the command is run.
         answer.reserve(answer::reserve_for(&command))?;
-        match self.session.step(&mut self.device, &command) {
-            Reply::NoMemory => Err(AllocError),
-            reply => {
+        match self.session.run(&mut self.device, &[command])?.pop() {
+            Some(Reply::NoMemory) => Err(AllocError),
+            Some(reply) => {
                 answer::reply_answer(answer, &self.session, &reply);
                 Ok(())
             }
+            None => unreachable!(),
         }
     }
 }
