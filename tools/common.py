@@ -253,11 +253,16 @@ def mutants_of(path):
     return read_mutants(path, []) if os.path.isfile(path) else []
 
 
-def edits_of(folder):
-    """The mutants of a folder, as rt must-fail takes them: each file is one, whatever its name, so that none is passed
-    over. It has lines 'file: PATH', and for each replacement 'old: TEXT' and 'new: TEXT'."""
-    for path in sorted(it for it in glob.glob(f"{folder}/**", recursive=True) if os.path.isfile(it)):
-        yield from read_mutants(path, [Mutant(os.path.basename(path).removesuffix(".edit"), "", [], no_lines())])
+def edits_of(crate):
+    """The mutants of a crate's folder must-fail, as rt must-fail takes them: each file is one, whatever its name, so that
+    none is passed over. It has lines 'file: PATH', and for each replacement 'old: TEXT' and 'new: TEXT'. Other lines
+    rt would report, so these are in mutants/must-fail.txt, below a line '== NAME'."""
+    beside = {it.name: it.lines for it in mutants_of(f"{crate}/mutants/must-fail.txt")}
+    for path in sorted(it for it in glob.glob(f"{crate}/must-fail/**", recursive=True) if os.path.isfile(it)):
+        name = os.path.basename(path).removesuffix(".edit")
+        yield from read_mutants(path, [Mutant(name, "", [], beside.pop(name, no_lines()))])
+    if beside:
+        refuse(f"{crate}/mutants/must-fail.txt: there is no edit {', '.join(beside)}")
 
 
 def no_lines():

@@ -113,6 +113,15 @@ def functions_and_ghosts():
 FUNCTIONS, GHOSTS = functions_and_ghosts()
 
 
+def has_clause(crate, text):
+    """Whether a crate has the clause that a line 'FUNCTION NAME' of a mutant names, or one without a name, or a ghost
+    member 'TYPE NAME'."""
+    function, _, clause = text.partition(" ")
+    kind, _, name = function.rpartition("::")
+    fits = [it for it in FUNCTIONS if it.crate == crate and it.name == name and kind in ("", it.type or it.path.stem)]
+    return clause in GHOSTS.get((crate, function), ()) or any(clause in {*it.requires, *it.ensures} for it in fits)
+
+
 def index(crates):
     """The clauses of the public functions of crates, a line for each function."""
     for function in FUNCTIONS:
