@@ -151,6 +151,55 @@ fn flags_with_unknown_bits() {
     unknown_bits_are_kept!(DescriptorSetLayoutCreateFlags, 2);
 }
 
+/// All pairs of three bits beside plain numbers; one of the bits is of no flag.
+macro_rules! beside_numbers {
+    ($flags:ident) => {
+        for (a, b) in (0..8_u32).flat_map(|a| (0..8).map(move |b| (a, b))) {
+            let (left, right) = ($flags::from_bits_retain(a), $flags::from_bits_retain(b));
+            assert_eq!(
+                ((left | right).bits(), (left & right).bits()),
+                (a | b, a & b)
+            );
+            assert_eq!(
+                ((left ^ right).bits(), (left - right).bits()),
+                (a ^ b, a & !b)
+            );
+            assert_eq!(left.intersects(right), a & b != 0);
+            assert_eq!(left.contains(right), a & b == b);
+            let collected: $flags = [left, right, left, right].into_iter().collect();
+            assert_eq!(collected.bits(), a | b);
+            let calls: [(fn(&mut $flags, $flags), u32); 10] = [
+                (|it, by| it.extend([by, by]), a | b),
+                (|it, by| it.insert(by), a | b),
+                (|it, by| it.remove(by), a & !b),
+                (|it, by| it.toggle(by), a ^ b),
+                (|it, by| it.set(by, true), a | b),
+                (|it, by| it.set(by, false), a & !b),
+                (|it, by| *it |= by, a | b),
+                (|it, by| *it &= by, a & b),
+                (|it, by| *it ^= by, a ^ b),
+                (|it, by| *it -= by, a & !b),
+            ];
+            for (place, (call, wanted)) in calls.into_iter().enumerate() {
+                let mut changed = left;
+                call(&mut changed, right);
+                assert_eq!(changed.bits(), wanted, "call {place} of {a} and {b}");
+            }
+        }
+        for (name, flag) in $flags::all().iter_names() {
+            assert_eq!($flags::from_name(name), Some(flag));
+            assert_eq!($flags::from_name(&format!("{name}_2")), None);
+            assert_eq!($flags::from_name(&name[1..]), None);
+        }
+    };
+}
+
+#[test]
+fn flags_beside_numbers() {
+    beside_numbers!(DescriptorPoolCreateFlags);
+    beside_numbers!(DescriptorSetLayoutCreateFlags);
+}
+
 /// A device that is lent to it is one, as `&Device` and `&&Device` are.
 #[test]
 fn a_lent_device() {
