@@ -17,6 +17,20 @@ PREFIX = f"{BUILD}/prefix"
 # for C, and by hand the program's own pools and a list of sets for each layout.
 COLUMNS = ["crate", "manager", "C", "pools", "lists"]
 
+# A trace whose first and third layout the library doesn't serve. It is checked, and isn't on the page.
+WITH_REFUSED_LAYOUTS = """\
+layout 0 flags 0 refused
+layout 1 flags 0 6:5
+layout 2 flags 0 refused
+layout 3 flags 2 1:1 6:1
+pool 0 max 16 flags 2 1:16 6:80
+alloc 0 3 1 3 3 = 0
+unlayout 2
+free 0 1
+unlayout 3
+destroy 0
+"""
+
 # The first passes, in which pools grow, are left out: those of the shorter of two runs that are counted, and those
 # that the programs don't time.
 FEWER, MORE = 2, 4
@@ -128,6 +142,13 @@ def instructions(words, name, trace, file, how):
 def checks(columns, over_driver):
     """What each column does otherwise than a trace says. Over a driver a manager with layouts that stay must make no
     call after the first passes."""
+    for column, words in columns.items():
+        with tempfile.NamedTemporaryFile("w") as file:
+            file.write(WITH_REFUSED_LAYOUTS)
+            file.flush()
+            for how in ((), ("stay",)):
+                said, wanted = finish([*words, file.name, "3", *how])[0], expected(WITH_REFUSED_LAYOUTS, 3)
+                yield f"refused layouts by {column}", None if said == wanted else f"{said}, not {wanted}"
     for name, trace, file in traces():
         for column, words in columns.items():
             said, _ = finish([*words, file, "1"])

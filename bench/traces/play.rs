@@ -5,6 +5,7 @@
 //! library doesn't serve, are left out.
 
 use crate::gpu::Gpu;
+use std::collections::BTreeMap;
 use std::mem::take;
 use std::time::{Duration, Instant};
 
@@ -102,6 +103,9 @@ fn number(word: &str) -> usize {
 /// The sets of each pool, by number, while a trace is read.
 type Held = Vec<Vec<usize>>;
 
+/// The numbers of the layouts that are played, by their numbers in the trace.
+type Played = BTreeMap<usize, usize>;
+
 /// What stands after the word `flags`.
 fn descriptors(words: &[&str]) -> Descriptors {
     let mut counts = [0; KINDS];
@@ -112,9 +116,13 @@ fn descriptors(words: &[&str]) -> Descriptors {
     Descriptors { counts, flags }
 }
 
-fn layout(words: &[&str]) -> Option<Call> {
-    let is_refused = words.contains(&"refused");
-    (!is_refused).then(|| Call::Layout(number(words[1]), descriptors(&words[3..])))
+fn layout(words: &[&str], played: &mut Played) -> Option<Call> {
+    if words.contains(&"refused") {
+        return None;
+    }
+    let next = played.len();
+    played.insert(number(words[1]), next);
+    Some(Call::Layout(next, descriptors(&words[3..])))
 }
 
 fn pool(words: &[&str]) -> Call {
@@ -123,7 +131,7 @@ fn pool(words: &[&str]) -> Call {
 }
 
 /// The stretches of one layout. No layout is refused in a request that is played.
-fn requests(words: &[&str], held: &mut Held, calls: &mut Vec<Call>) {
+fn requests(words: &[&str], played: &Played, held: &mut Held, calls: &mut Vec<Call>) {
     let [_, pool, count, rest @ .., sign, first] = words else {
         return;
     };
@@ -133,7 +141,7 @@ fn requests(words: &[&str], held: &mut Held, calls: &mut Vec<Call>) {
     let pool = number(pool);
     held[pool].extend((number(first)..).take(number(count)));
     for stretch in rest.chunk_by(|one, next| one == next) {
-        calls.push(Call::Request(pool, number(stretch[0]), stretch.len() as u32));
+        calls.push(Call::Request(pool, played[&number(stretch[0])], stretch.len() as u32));
     }
 }
 
@@ -151,18 +159,18 @@ fn free(words: &[&str], held: &mut Held) -> Call {
 
 impl Trace {
     pub fn read(text: &str) -> Self {
-        let (mut calls, mut held): (_, Held) = (Vec::new(), Vec::new());
+        let (mut calls, mut held, mut played): (_, Held, _) = (Vec::new(), Vec::new(), Played::new());
         let (mut frames, mut frame) = (Vec::new(), 0);
         for line in text.lines() {
             let words: Vec<&str> = line.split_whitespace().collect();
             match words[0] {
-                "layout" => calls.extend(layout(&words)),
-                "unlayout" => calls.push(Call::Unlayout(number(words[1]))),
+                "layout" => calls.extend(layout(&words, &mut played)),
+                "unlayout" => calls.extend(played.get(&number(words[1])).map(|it| Call::Unlayout(*it))),
                 "pool" => {
                     held.push(Vec::new());
                     calls.push(pool(&words));
                 }
-                "alloc" => requests(&words, &mut held, &mut calls),
+                "alloc" => requests(&words, &played, &mut held, &mut calls),
                 "free" => calls.push(free(&words, &mut held)),
                 "reset" | "destroy" => {
                     held[number(words[1])].clear();
