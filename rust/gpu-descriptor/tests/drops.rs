@@ -117,6 +117,8 @@ fn what_a_drop_writes() {
         let errors = String::from_utf8(ran.stderr).unwrap();
         let lines = errors.lines().filter(|it| [SETS, POOLS].contains(it));
         assert!(lines.eq(*line), "{place}: {errors}");
+        let ends = line.is_none_or(|it| errors.contains(&format!("{it}\n")));
+        assert!(ends, "the line has its end");
     }
 }
 

@@ -178,6 +178,9 @@ fn a_layout_that_is_refused_memory_comes_back() {
         for number in 0..40 {
             // SAFETY: the device knows no layouts.
             if let Err(error) = counted(|| unsafe { it.add_layout(layout(number % 3)) }) {
+                let texts = (error.to_string(), format!("{error:?}"));
+                assert_eq!(texts.0, "Host memory exhausted");
+                assert_eq!(texts.1, "AddLayoutError(..)");
                 assert_eq!(error.into_inner().layout, number % 3);
                 assert_eq!(it.statistics().layouts, u64::from(number));
                 refusals += 1;

@@ -796,6 +796,27 @@ fn frames_out_of_turn() {
     stage.shutdown();
 }
 
+#[test]
+fn a_set_manager_shows_its_state() {
+    let gpu = Gpu::new();
+    let mut it = SetManager::new(&gpu, 10_000);
+    // SAFETY: the device knows no layouts.
+    let layout = unsafe { it.add_layout(layout(0)) }.unwrap();
+    let held = it.allocate_many(layout, 6).unwrap();
+    it.skip_to(6).unwrap();
+    it.begin_frame().unwrap();
+    it.free_after(&held[..1], 7).unwrap();
+    // SAFETY: no frame is in flight.
+    unsafe { it.free(&held[1..3]) }.unwrap();
+    let text = "SetManager { frame: 7, is_frame_open: true, is_poisoned: false, \
+        counts: Counts { held: 3, waiting: 1, kept: 2 }, .. }";
+    assert_eq!(format!("{it:?}"), text);
+    it.end_frame();
+    assert!(format!("{it:?}").contains("frame: 7, is_frame_open: false"));
+    // SAFETY: as above.
+    unsafe { it.shutdown() };
+}
+
 /// A set that is destroyed in a frame in flight isn't freed before that frame is done.
 #[test]
 fn freed_in_flight() {

@@ -61,19 +61,24 @@ fn a_binding_without_descriptors_counts_nothing() {
 
 #[test]
 fn what_cannot_be_counted_is_named() {
+    let mutable = count(&[(0, 1), (1_000_351_000, 1)]).unwrap_err();
+    assert_eq!(mutable, CountError::MutableType);
     assert_eq!(
-        count(&[(0, 1), (1_000_351_000, 1)]),
-        Err(CountError::MutableType)
+        mutable.to_string(),
+        "A binding has a mutable descriptor type"
     );
     // Nothing, VK_DESCRIPTOR_TYPE_ACCELERATION_STRUCTURE_NV, _SAMPLE_WEIGHT_IMAGE_QCOM, nothing.
     for number in [11, 1_000_165_000, 1_000_440_000, -1] {
         let error = CountError::UnknownType(DescriptorType(number));
         assert_eq!(count(&[(number, 1)]), Err(error));
-        assert!(error.to_string().contains(&number.to_string()));
+        let text = format!("Descriptors of type {number} are not counted");
+        assert_eq!(error.to_string(), text);
     }
     for number in (0..11).chain([1_000_138_000, 1_000_150_000]) {
         let error = CountError::Overflow(DescriptorType(number));
         assert_eq!(count(&[(number, u32::MAX), (number, 1)]), Err(error));
+        let text = format!("The descriptors of type {number} pass 32 bits");
+        assert_eq!(error.to_string(), text);
         assert!(count(&[(number, u32::MAX - 1), (number, 1)]).is_ok());
     }
 }
@@ -85,8 +90,10 @@ fn flags_of_a_layout() {
     assert_eq!(layout_flags(2), Ok(bind));
     // Push descriptors, the host alone, descriptor buffers.
     for flag in [0x1, 0x4, 0x10, 0x8000_0000] {
-        let error = Err(LayoutFlagsError { unknown: flag });
-        assert_eq!(layout_flags(flag), error);
-        assert_eq!(layout_flags(flag | 2), error);
+        let error = LayoutFlagsError { unknown: flag };
+        assert_eq!(layout_flags(flag), Err(error));
+        assert_eq!(layout_flags(flag | 2), Err(error));
+        let text = format!("Layouts with the flags {flag:#x} are not served");
+        assert_eq!(error.to_string(), text);
     }
 }

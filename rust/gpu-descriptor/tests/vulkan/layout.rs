@@ -99,7 +99,8 @@ fn a_function_that_the_loader_lacks_is_named() {
         let lacks = |asked: &CStr| function_of(asked).filter(|_| asked != name);
         let error = Functions::load(lacks).unwrap_err();
         assert_eq!(error.name, name);
-        assert!(error.to_string().contains(name.to_str().unwrap()));
+        let text = format!("The loader has no function {name:?}");
+        assert_eq!(error.to_string(), text);
     }
 }
 
