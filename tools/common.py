@@ -260,7 +260,10 @@ def edits_of(crate):
     beside = {it.name: it.lines for it in mutants_of(f"{crate}/mutants/must-fail.txt")}
     for path in sorted(it for it in glob.glob(f"{crate}/must-fail/**", recursive=True) if os.path.isfile(it)):
         name = os.path.basename(path).removesuffix(".edit")
-        yield from read_mutants(path, [Mutant(name, "", [], beside.pop(name, no_lines()))])
+        found = read_mutants(path, [Mutant(name, "", [], no_lines())])
+        if len(found) > 1 or any(found[0].lines.values()):
+            refuse(f"{path}: only 'file:', 'old:' and 'new:' begin its lines; others are in mutants/must-fail.txt")
+        yield found[0]._replace(lines=beside.pop(name, no_lines()))
     if beside:
         refuse(f"{crate}/mutants/must-fail.txt: there is no edit {', '.join(beside)}")
 
