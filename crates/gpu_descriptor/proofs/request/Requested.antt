@@ -21,6 +21,9 @@ module _ {P : Type 0} (a : Allocations P) (es : List (BucketKey × DescriptorBuc
 abbrev pub seen : {P : Type 0} → ℕ → Option ℕ → ℕ × ℕ → ℕ → ℕ → List (BucketKey × DescriptorBucket P) → Allocations P
 seen limit bound ids looks compared es = record { limit = limit; bound = bound; ids = ids; table = map row_of es; looks = looks; comparisons = compared }
 
+pub same_range : {a b c d : ℕ} → a ≡ b → c ≡ d → ◌≡◌ {A = ℕ × ℕ} (a, c) (b, d)
+same_range first end = λ i. (first i, end i)
+
 -- no key has two rows, where the table has none twice
 pub rows_distinct : {P : Type 0} (name : P → ℕ) (es : List (BucketKey × DescriptorBucket P)) → IsDistinct key_eq (stored_keys es) → HasDistinctKeys (map (named_row name) (map row_of es))
 rows_distinct name es distinct = distinct_rows name es distinct

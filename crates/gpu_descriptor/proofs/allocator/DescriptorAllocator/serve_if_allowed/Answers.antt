@@ -1,4 +1,4 @@
-use Rattle.gpu_descriptor.proofs.Common.{common_steps, ◌≡◌, ◌+◌, ◌*◌, ◌<◌, ◌≤◌, ℕ, length, arith, refl, sym, subst, None, ap, false≢true, greatest_u64, Bucket, next_number, outstanding_of, key_of, set_descriptors, IsConsistent, ◌∙◌, Allocations, rules}
+use Rattle.gpu_descriptor.proofs.Common.{common_steps, ◌≡◌, ◌+◌, ◌*◌, ◌<◌, ◌≤◌, length, arith, refl, sym, subst, None, ap, false≢true, greatest_u64, Bucket, next_number, outstanding_of, key_of, set_descriptors, IsConsistent, ◌∙◌, Allocations, rules}
 use Rattle.gpu_descriptor.proofs.sums.Loads.{set_descriptors-each}
 use Rattle.gpu_descriptor.proofs.cleanup.KeyOrder.{keys_seen}
 use Rattle.gpu_descriptor.proofs.callers.Unchanged.{keeps_still}
@@ -7,15 +7,12 @@ use Rattle.gpu_descriptor.proofs.Common.{[], ◌∷◌, stored_ids}
 use Rattle.gpu_descriptor.proofs.lists.Numbers.{rises_front}
 use Rattle.gpu_descriptor.proofs.release.Owned.{has_ids}
 use Rattle.gpu_descriptor.proofs.request.HandedOut.{keeps_all}
-use Rattle.gpu_descriptor.proofs.request.Requested.{load_within, pool_load_within, rows_apart, seen, seen_again, table_is, declined_by_limit, declined_by_bound, declined_unserved, given_fits, counted_now, takes_of, books_at}
+use Rattle.gpu_descriptor.proofs.request.Requested.{load_within, pool_load_within, rows_apart, same_range, seen, seen_again, table_is, declined_by_limit, declined_by_bound, declined_unserved, given_fits, counted_now, takes_of, books_at}
 use Rattle.gpu_descriptor.specs.Caller.SetLists.{appended}
 use Rattle.gpu_descriptor.proofs.request.Passed.{passed}
 use Rattle.gpu_descriptor.proofs.allocator.DescriptorAllocator.serve_if_allowed.Goals.{After-from-taken}
 use Rattle.gpu_descriptor.proofs.request.StateAgrees.{booked_of}
 use Rattle.gpu_descriptor.proofs.allocator.DescriptorAllocator.serve_if_allowed.Goals as goal
-
-same_range : {a b c d : ℕ} → a ≡ b → c ≡ d → ◌≡◌ {A = ℕ × ℕ} (a, c) (b, d)
-same_range first end = λ i. (first i, end i)
 
 pub returns-then-would_exceed_limit-clause-declined : goal.returns-then-would_exceed_limit-clause-declined
 returns-then-would_exceed_limit-clause-declined g c =

@@ -1,4 +1,4 @@
-use Rattle.gpu_descriptor.proofs.Common.{◌≡◌, ◌≤◌, ◌+◌, ℕ, suc, rules, refl, sym, ap, subst, ◌∙◌, arith, length, map, length-map, take_all, Ledger, Bucket, key_of, Allocations, AreBookedIn, has_pools, rises, stored_ids, outstanding_of, marked_load_of, bucket_of, named_row, row_of}
+use Rattle.gpu_descriptor.proofs.Common.{◌≡◌, ◌≤◌, ◌+◌, suc, rules, refl, sym, ap, subst, ◌∙◌, arith, length, map, length-map, take_all, Ledger, Bucket, key_of, Allocations, AreBookedIn, has_pools, rises, stored_ids, outstanding_of, marked_load_of, bucket_of, named_row, row_of}
 use Rattle.gpu_descriptor.proofs.Common.{◌++◌, ◌∷◌, [], IsDistinct, key_eq}
 use Rattle.gpu_descriptor.proofs.Common.{list_all}
 use Rattle.gpu_descriptor.specs.Inner.Ids.{is_id_of}
@@ -13,12 +13,9 @@ use Rattle.gpu_descriptor.proofs.sums.Loads.{rows_pool_load, stored_load_in, sum
 use Rattle.gpu_descriptor.proofs.cleanup.KeyOrder.{keys_cleaned}
 use Rattle.gpu_descriptor.proofs.cleanup.RowsCleaned.{all_cleared, agree_is, cleared, counted_filter, counted_put, ledger_less, next, next_stored, step_less, step_rows, whole_clean, whole_count}
 use Rattle.gpu_descriptor.proofs.foreign.OthersStay.{cleaned_others, emptied}
-use Rattle.gpu_descriptor.proofs.request.Requested.{rows_distinct}
+use Rattle.gpu_descriptor.proofs.request.Requested.{rows_distinct, same_range}
 use Rattle.gpu_descriptor.proofs.table.TableBooks.{rows_in, distinct_rows, distinct_stored}
 use Rattle.gpu_descriptor.proofs.allocator.DescriptorAllocator.sweep.Goals as goal
-
-same_range : {a b c d : ℕ} → a ≡ b → c ≡ d → ◌≡◌ {A = ℕ × ℕ} (a, c) (b, d)
-same_range first end = λ i. (first i, end i)
 
 pub destroy_empty-requires-clause-stored : goal.destroy_empty-requires-clause-stored
 destroy_empty-requires-clause-stored g c =
