@@ -242,7 +242,8 @@ impl<P, S> DescriptorAllocator<P, S> {
     ///
     /// # Safety
     ///
-    /// Every call of this allocator gets the same device.
+    /// Every call of this allocator gets the same device. The layout was created with these flags and descriptor
+    /// counts.
     pub unsafe fn trim_layout<L>(
         &mut self,
         device: &impl DescriptorDevice<L, P, S>,
@@ -302,7 +303,7 @@ impl<P, S> DescriptorAllocator<P, S> {
         self.inner.get().pool_count(counts, update_after_bind)
     }
 
-    /// The books of the pool at this index among those for sets of layouts with these counts and this flag,
+    /// The numbers of the pool at this index among those for sets of layouts with these counts and this flag,
     /// oldest first; `None` past the last.
     #[must_use]
     pub fn pool(

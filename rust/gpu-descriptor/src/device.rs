@@ -35,18 +35,18 @@ pub trait DescriptorDevice<L, P, S> {
         flags: DescriptorPoolCreateFlags,
     ) -> Result<P, CreatePoolError>;
 
-    /// Destroys a pool that this device created and that has no sets.
+    /// Destroys a pool.
     ///
     /// # Safety
     ///
-    /// Only the allocator calls it.
+    /// The pool is of this device, and has no sets.
     unsafe fn destroy_descriptor_pool(&self, pool: P);
 
     /// Allocates a set for each layout and extends `sets` by them; or returns an error and gives none.
     ///
     /// # Safety
     ///
-    /// Only the allocator calls it.
+    /// The pool is of this device, and has room for the sets. The layouts are of this device.
     unsafe fn alloc_descriptor_sets<'a>(
         &self,
         pool: &mut P,
@@ -56,11 +56,12 @@ pub trait DescriptorDevice<L, P, S> {
     where
         L: 'a;
 
-    /// Frees all sets of the iterator, which are of this pool.
+    /// Frees all sets of the iterator.
     ///
     /// # Safety
     ///
-    /// Only the allocator calls it.
+    /// The pool is of this device. The sets were allocated from it and not freed, and the device is done with
+    /// them.
     unsafe fn dealloc_descriptor_sets(&self, pool: &mut P, sets: impl Iterator<Item = S>);
 }
 

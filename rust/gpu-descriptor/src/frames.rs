@@ -306,7 +306,8 @@ impl<P, S> FrameManager<P, S> {
     ///
     /// # Safety
     ///
-    /// Every call of this manager gets the same device.
+    /// Every call of this manager gets the same device. The layout was created with these flags and descriptor
+    /// counts.
     pub unsafe fn trim_layout<L>(
         &mut self,
         device: &impl DescriptorDevice<L, P, S>,

@@ -548,7 +548,7 @@ impl<L, P, S, D: DescriptorDevice<L, P, S>> SetManager<L, P, S, D> {
         self.inner.get().pool_count(layout)
     }
 
-    /// The books of the pool at this index among those of [`pool_count`](Self::pool_count), oldest first;
+    /// The numbers of the pool at this index among those of [`pool_count`](Self::pool_count), oldest first;
     /// `None` past the last. Kept sets count as allocated from their pools.
     #[must_use]
     pub fn pool(&self, layout: LayoutHandle, index: usize) -> Option<PoolView> {

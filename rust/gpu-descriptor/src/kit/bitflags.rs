@@ -89,7 +89,7 @@ macro_rules! bitflag_items {
                 self.0 &= !other.0;
             }
 
-            /// Turns the bits of the other over.
+            /// Inverts the bits that the other has.
             pub const fn toggle(&mut self, other: Self) {
                 self.0 ^= other.0;
             }
