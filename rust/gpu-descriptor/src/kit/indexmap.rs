@@ -219,14 +219,29 @@ impl<K, V> IndexMut<usize> for IndexMap<K, V> {
 #[cfg(test)]
 mod tests {
     use super::{Global, IndexMap, Vec};
+    use core::hash::{Hash, Hasher};
 
     /// Only four hashes, so that most keys share theirs.
     #[derive(Clone, Copy, Debug, PartialEq, Eq)]
     struct Key(u32);
 
-    impl core::hash::Hash for Key {
-        fn hash<H: core::hash::Hasher>(&self, state: &mut H) {
+    impl Hash for Key {
+        fn hash<H: Hasher>(&self, state: &mut H) {
             state.write_u64(u64::from(self.0 % 4));
+        }
+    }
+
+    /// Counts, hashed as those of a layout are.
+    #[derive(Debug, PartialEq, Eq)]
+    struct Counts([u32; 14]);
+
+    impl Hash for Counts {
+        fn hash<H: Hasher>(&self, state: &mut H) {
+            let word = |at: usize| u64::from(self.0[at]) | u64::from(self.0[at + 1]) << 32;
+            for at in [0, 4, 8] {
+                state.write_u128(u128::from(word(at)) | u128::from(word(at + 2)) << 64);
+            }
+            state.write_u64(word(12));
         }
     }
 
@@ -238,6 +253,30 @@ mod tests {
         }
         for place in 0..=9 {
             assert_eq!(map.partition_point(|key, ()| *key < place), place);
+        }
+    }
+
+    /// How many slots are looked at to find each key.
+    fn looks<K, V>(map: &IndexMap<K, V>) -> usize {
+        let last = map.slots.len() - 1;
+        let slots = map.slots.iter().enumerate();
+        let taken = slots.filter(|(_, slot)| **slot != super::VACANT);
+        let looks = taken.map(|(at, slot)| at.wrapping_sub(super::first_slot(slot.0, last)) & last);
+        looks.map(|it| it + 1).sum()
+    }
+
+    /// Whichever count is the one in which the keys differ.
+    #[test]
+    fn a_key_is_found_by_few_looks() {
+        for kind in 0..14 {
+            let mut map = IndexMap::new(Global);
+            for count in 0..1000 {
+                let mut counts = Counts([0; 14]);
+                counts.0[kind] = count;
+                map.insert(counts, ()).unwrap();
+            }
+            let looks = looks(&map);
+            assert!(looks <= 8 * map.len(), "{looks} looks at kind {kind}");
         }
     }
 
