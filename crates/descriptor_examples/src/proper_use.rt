@@ -2,10 +2,10 @@
 ghost use Rattle.std.specs.Prelude.{◌≡◌};
 ghost use Rattle.gpu_descriptor.specs.Caller.States.{Agrees, outstanding_of};
 ghost use Rattle.descriptor_script.specs.Scripted.Raw.{pool_id};
-ghost use Rattle.descriptor_script.specs.Scripted.Logged.{ledger_logged};
+ghost use Rattle.descriptor_script.specs.Scripted.Device.{ledger_of};
 
 use bitflags::Flags;
-use descriptor_script::{LogDevice, RawPool, RawSet, ScriptLayout};
+use descriptor_script::{RawPool, RawSet, ScriptLayout, ScriptedDevice};
 use gpu_descriptor::{
     AllocationError, CreatePoolError, DescriptorAllocator, DescriptorDevice,
     DescriptorPoolCreateFlags, DescriptorTotalCount,
@@ -14,11 +14,11 @@ use gpu_descriptor::{
 /// Allocates a set, reads its name, and frees it.
 pub fn borrow_set(
     allocator: &mut DescriptorAllocator<RawPool, RawSet>,
-    device: &mut LogDevice,
+    device: &mut ScriptedDevice,
     layout: &ScriptLayout,
 ) -> Result<u64, AllocationError>
-    requires { Agrees pool_id allocator.old (ledger_logged device.old) }
-    ensures agree { Agrees pool_id allocator.new (ledger_logged device.new) }
+    requires { Agrees pool_id allocator.old (ledger_of device.old) }
+    ensures agree { Agrees pool_id allocator.new (ledger_of device.new) }
     ensures outstanding { outstanding_of allocator.new ≡ outstanding_of allocator.old }
 {
     let flags = layout.flags();
@@ -36,12 +36,12 @@ pub fn borrow_set(
 /// end.
 pub fn borrow_sets(
     allocator: &mut DescriptorAllocator<RawPool, RawSet>,
-    device: &mut LogDevice,
+    device: &mut ScriptedDevice,
     layout: &ScriptLayout,
     count: u32,
 ) -> Result<bool, AllocationError>
-    requires { Agrees pool_id allocator.old (ledger_logged device.old) }
-    ensures agree { Agrees pool_id allocator.new (ledger_logged device.new) }
+    requires { Agrees pool_id allocator.old (ledger_of device.old) }
+    ensures agree { Agrees pool_id allocator.new (ledger_of device.new) }
     ensures outstanding { outstanding_of allocator.new ≡ outstanding_of allocator.old }
 {
     let flags = layout.flags();
@@ -57,10 +57,10 @@ pub fn borrow_sets(
 
 /// Creates a pool, reads its name, and destroys it.
 pub fn borrow_pool(
-    device: &mut LogDevice,
+    device: &mut ScriptedDevice,
     counts: &DescriptorTotalCount,
 ) -> Result<u64, CreatePoolError>
-    ensures pools { (ledger_logged device.new).pools ≡ (ledger_logged device.old).pools }
+    ensures pools { (ledger_of device.new).pools ≡ (ledger_of device.old).pools }
 {
     let flags = DescriptorPoolCreateFlags::empty();
     match device.create_descriptor_pool(counts, 1, flags) {

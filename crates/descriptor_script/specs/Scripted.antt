@@ -1,5 +1,4 @@
--- The scripted devices: their raw values, their words, what they owe, and what one lists.
+-- The scripted devices: their raw values, their words, and what they owe.
 pub mod Device
-pub mod Logged
 pub mod Raw
 pub mod Script

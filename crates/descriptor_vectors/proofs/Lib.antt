@@ -1,1 +1,2 @@
 mod Beside
+mod Owing

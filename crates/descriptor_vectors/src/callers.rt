@@ -1,12 +1,11 @@
 //! Callers, each once with ample memory: that it succeeds, and what it leaves. No clause says that
 //! memory is there.
 use crate::seen::{expect_calls, expect_same, layout_of};
+use crate::{Call, LogDevice};
 use descriptor_examples::drawing::{render, render_one};
 use descriptor_examples::game::{Score, play};
 use descriptor_examples::one_layout::draw_once;
-use descriptor_script::{
-    Answer, Call, LogDevice, RawPool, RawSet, ScriptLayout, ScriptedDevice, refuse_at,
-};
+use descriptor_script::{Answer, RawPool, RawSet, ScriptLayout, ScriptedDevice, refuse_at};
 use gpu_descriptor::{DescriptorDevice, DescriptorPoolCreateFlags};
 use std::process::Abort;
 use std::test::Fail;

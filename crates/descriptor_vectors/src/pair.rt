@@ -2,11 +2,12 @@
 //! no clause says.
 ghost use Rattle.std.specs.Prelude.{IfOk};
 ghost use Rattle.descriptor_script.specs.Sessions.Session.{value_of};
-ghost use Rattle.descriptor_script.specs.Scripted.Logged.{ledger_logged};
+ghost use Rattle.descriptor_vectors.specs.Logged.{ledger_logged};
 ghost use Rattle.descriptor_vectors.specs.Pairs.{ArePaired, IsNewSession, paired-prop};
 
 use crate::seen::{expect_calls, expect_pools, expect_same, layout_of};
-use descriptor_script::{Call, Command, LogDevice, RawPool, RawSet, Reply, ScriptLayout, Session};
+use crate::{Call, LogDevice};
+use descriptor_script::{Command, RawPool, RawSet, Reply, ScriptLayout, Session};
 use std::alloc::{AllocError, Global};
 use std::process::Abort;
 use std::test::Fail;

@@ -3,11 +3,11 @@
 ghost use Rattle.std.specs.Prelude.{◌≡◌, IsTrue};
 ghost use Rattle.gpu_descriptor.specs.Caller.States.{Agrees, outstanding_of, state_of};
 ghost use Rattle.gpu_descriptor.specs.Model.Agreement.{HasNoPools};
-ghost use Rattle.descriptor_script.specs.Scripted.Logged.{ledger_logged};
+ghost use Rattle.descriptor_script.specs.Scripted.Device.{ledger_of};
 ghost use Rattle.descriptor_script.specs.Scripted.Raw.{pool_id};
 
 use crate::seen::{expect_same, layout_of};
-use descriptor_script::{Answer, LogDevice, RawPool, RawSet, ScriptLayout, refuse_at};
+use descriptor_script::{Answer, RawPool, RawSet, ScriptLayout, ScriptedDevice, refuse_at};
 use gpu_descriptor::{AllocationError, DescriptorAllocator, laws};
 use std::process::Abort;
 use std::test::Fail;
@@ -15,15 +15,15 @@ use std::test::Fail;
 /// Asks for a set. It answers whether that was refused, and left the key without pools.
 fn ask_in_vain(
     allocator: &mut DescriptorAllocator<RawPool, RawSet>,
-    device: &mut LogDevice,
+    device: &mut ScriptedDevice,
     layout: &ScriptLayout,
 ) -> bool
-    requires agree { Agrees pool_id allocator.old (ledger_logged device.old) }
-    requires began { HasNoPools (state_of pool_id allocator.old (ledger_logged device.old)) }
-    ensures agree { Agrees pool_id allocator.new (ledger_logged device.new) }
+    requires agree { Agrees pool_id allocator.old (ledger_of device.old) }
+    requires began { HasNoPools (state_of pool_id allocator.old (ledger_of device.old)) }
+    ensures agree { Agrees pool_id allocator.new (ledger_of device.new) }
     ensures none { outstanding_of allocator.new ≡ outstanding_of allocator.old }
     ensures began { IsTrue result → HasNoPools (state_of pool_id allocator.new
-        (ledger_logged device.new)) }
+        (ledger_of device.new)) }
 {
     let flags = layout.flags();
     match allocator.allocate(device, layout, flags, &layout.counts, 1) {
@@ -39,13 +39,13 @@ fn ask_in_vain(
 /// that it had.
 fn borrow_and_clean(
     allocator: &mut DescriptorAllocator<RawPool, RawSet>,
-    device: &mut LogDevice,
+    device: &mut ScriptedDevice,
     layout: &ScriptLayout,
 ) -> Result<(), AllocationError>
-    requires agree { Agrees pool_id allocator.old (ledger_logged device.old) }
-    requires began { HasNoPools (state_of pool_id allocator.old (ledger_logged device.old)) }
+    requires agree { Agrees pool_id allocator.old (ledger_of device.old) }
+    requires began { HasNoPools (state_of pool_id allocator.old (ledger_of device.old)) }
     requires none { outstanding_of allocator.old ≡ 0 }
-    ensures pools { (ledger_logged device.new).pools ≡ (ledger_logged device.old).pools }
+    ensures pools { (ledger_of device.new).pools ≡ (ledger_of device.old).pools }
 {
     laws::no_pool_is_lost::<RawPool>();
     let flags = layout.flags();
@@ -66,10 +66,10 @@ fn borrow_and_clean(
 fn expect_pools_back(
     rt: &impl Abort,
     allocator: &mut DescriptorAllocator<RawPool, RawSet>,
-    device: &mut LogDevice,
+    device: &mut ScriptedDevice,
 ) -> Result<(), Fail>
-    requires agree { Agrees pool_id allocator.old (ledger_logged device.old) }
-    requires began { HasNoPools (state_of pool_id allocator.old (ledger_logged device.old)) }
+    requires agree { Agrees pool_id allocator.old (ledger_of device.old) }
+    requires began { HasNoPools (state_of pool_id allocator.old (ledger_of device.old)) }
     requires none { outstanding_of allocator.old ≡ 0 }
 {
     let layout = layout_of(1, false);
@@ -84,7 +84,7 @@ fn expect_pools_back(
 #[test]
 fn pools_come_back_after_a_refused_first_request(rt: HostRuntime) -> Result<(), Fail> {
     let script = refuse_at(rt.alloc(), 0, Answer::Device)?;
-    let mut device = LogDevice::with_script(rt.alloc(), script);
+    let mut device = ScriptedDevice::new(rt.alloc(), script);
     let mut allocator = DescriptorAllocator::new(rt.alloc(), 0);
     expect_pools_back(&rt, &mut allocator, &mut device)
 }

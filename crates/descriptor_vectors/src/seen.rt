@@ -1,5 +1,6 @@
 //! A layout, and what tests look at.
-use descriptor_script::{Call, LogDevice, RawPool, RawSet, Reply, ScriptLayout};
+use crate::{Call, LogDevice};
+use descriptor_script::{RawPool, RawSet, Reply, ScriptLayout};
 use gpu_descriptor::{DescriptorAllocator, DescriptorTotalCount};
 use std::fmt::Debug;
 use std::process::Abort;

@@ -1,11 +1,11 @@
 //! Sets in a caller's hands: that each goes back, by an iterator which the caller keeps too.
 ghost use Rattle.gpu_descriptor.specs.Caller.States.{Agrees};
 ghost use Rattle.descriptor_script.specs.Scripted.Raw.{pool_id};
-ghost use Rattle.descriptor_script.specs.Scripted.Logged.{ledger_logged};
+ghost use Rattle.descriptor_script.specs.Scripted.Device.{ledger_of};
 
 use crate::seen::{expect_same, layout_of};
 use descriptor_examples::proper_use::{borrow_pool, borrow_set, borrow_sets};
-use descriptor_script::{LogDevice, RawPool, RawSet, ScriptLayout};
+use descriptor_script::{RawPool, RawSet, ScriptLayout, ScriptedDevice};
 use gpu_descriptor::{AllocationError, DescriptorAllocator};
 use std::process::Abort;
 use std::test::Fail;
@@ -14,12 +14,12 @@ use std::test::Fail;
 fn expect_borrowed(
     rt: &impl Abort,
     allocator: &mut DescriptorAllocator<RawPool, RawSet>,
-    device: &mut LogDevice,
+    device: &mut ScriptedDevice,
     layout: &ScriptLayout,
     name: u64,
 ) -> Result<(), AllocationError>
-    requires { Agrees pool_id allocator.old (ledger_logged device.old) }
-    ensures { Agrees pool_id allocator.new (ledger_logged device.new) }
+    requires { Agrees pool_id allocator.old (ledger_of device.old) }
+    ensures { Agrees pool_id allocator.new (ledger_of device.new) }
 {
     expect_same(rt, borrow_set(allocator, device, layout)?, name);
     expect_same(rt, allocator.outstanding(), 0);
@@ -30,9 +30,9 @@ fn expect_borrowed(
 fn expect_all_lent(
     rt: &impl Abort,
     allocator: &mut DescriptorAllocator<RawPool, RawSet>,
-    device: &mut LogDevice,
+    device: &mut ScriptedDevice,
 ) -> Result<(), Fail>
-    requires { Agrees pool_id allocator.old (ledger_logged device.old) }
+    requires { Agrees pool_id allocator.old (ledger_of device.old) }
 {
     let plain = layout_of(1, false);
     expect_borrowed(rt, allocator, device, &plain, 0)?;
@@ -46,7 +46,7 @@ fn expect_all_lent(
 
 #[test]
 fn sets_are_lent_and_come_back(rt: HostRuntime) -> Result<(), Fail> {
-    let mut device = LogDevice::new(rt.alloc());
+    let mut device = ScriptedDevice::new(rt.alloc(), Vec::new(rt.alloc()));
     let mut allocator = DescriptorAllocator::new(rt.alloc(), 10);
     expect_all_lent(&rt, &mut allocator, &mut device)
 }

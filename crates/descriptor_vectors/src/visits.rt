@@ -6,13 +6,14 @@ ghost use Rattle.gpu_descriptor.specs.Caller.States.{state_of};
 ghost use Rattle.descriptor_script.specs.Scripted.Raw.{pool_id, script_meaning};
 ghost use Rattle.descriptor_script.specs.Sessions.Session.{IsReady, value_of};
 ghost use Rattle.gpu_descriptor.specs.Model.Agreement.{HasNoPools};
-ghost use Rattle.descriptor_script.specs.Scripted.Logged.{ledger_logged};
+ghost use Rattle.descriptor_vectors.specs.Logged.{ledger_logged};
 
+use crate::LogDevice;
 use crate::pair::one_layout;
 use crate::seen::sets;
 use descriptor_script::headline::headline;
 use descriptor_script::visit::visit;
-use descriptor_script::{Command, LogDevice, RawPool, RawSet, Reply, ScriptLayout, Session};
+use descriptor_script::{Command, RawPool, RawSet, Reply, ScriptLayout, Session};
 use std::alloc::{AllocError, Global};
 use std::process::Abort;
 use std::test::Fail;

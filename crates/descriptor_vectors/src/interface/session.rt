@@ -3,9 +3,9 @@ ghost use Rattle.gpu_descriptor_types.specs.Side.{side};
 ghost use Rattle.descriptor_script.specs.Sessions.Session.{IsReady, value_of};
 
 use super::{is_compared, is_debug, is_plain, is_value};
+use crate::LogDevice;
 use descriptor_script::{
-    Answer, Command, LogDevice, RawPool, RawSet, Reply, ScriptLayout, ScriptedDevice, Session,
-    refuse_at,
+    Answer, Command, RawPool, RawSet, Reply, ScriptLayout, ScriptedDevice, Session, refuse_at,
 };
 use gpu_descriptor::{
     AllocationError, DescriptorAllocator, DescriptorDevice, DescriptorSet,

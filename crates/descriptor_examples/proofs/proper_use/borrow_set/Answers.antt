@@ -7,13 +7,13 @@ use Rattle.gpu_descriptor.specs.Caller.Sets.{items_of}
 use Rattle.gpu_descriptor.specs.Caller.States.{state_of}
 use Rattle.descriptor_script.specs.Scripted.Raw.{pool_id, set_id}
 use Rattle.gpu_descriptor.proofs.callers.HeldSets.{came_out, out_front}
-use Rattle.descriptor_script.specs.Scripted.Logged.{ledger_logged}
+use Rattle.descriptor_script.specs.Scripted.Device.{ledger_of}
 use Rattle.descriptor_examples.proofs.proper_use.borrow_set.Goals as goal
 
 pub free-requires-clause-outstanding : goal.free-requires-clause-outstanding
 free-requires-clause-outstanding c iter gives xs t y =
-    let before : State = state_of pool_id c.args.allocator.now (ledger_logged c.args.device.now) in
-    let now : State = state_of pool_id c.allocate.new.self (ledger_logged c.allocate.new.device) in
+    let before : State = state_of pool_id c.args.allocator.now (ledger_of c.args.device.now) in
+    let now : State = state_of pool_id c.allocate.new.self (ledger_of c.allocate.new.device) in
     out_front set_id xs (into_iter_items t) c.in-Ok.sets.items now (sym gives.0 ∙ taken_front iter xs t y) (came_out (items_of set_id c.in-Ok.sets.items) before now c.in-Ok.ensures.hands_out.given)
 
 pub returns-in-Ok-clause-outstanding : goal.returns-in-Ok-clause-outstanding

@@ -1,11 +1,11 @@
 use Rattle.std.proofs.Common.{◌≡◌, ◌∙◌, arith}
-use Rattle.descriptor_script.specs.Scripted.Logged.{ledger_logged}
+use Rattle.descriptor_script.specs.Scripted.Device.{ledger_of}
 use Rattle.descriptor_script.specs.Scripted.Raw.{pool_id}
 use Rattle.descriptor_vectors.proofs.refused_first.borrow_and_clean.Goals as goal
 
 pub returns-in-Ok : goal.returns-in-Ok
 returns-in-Ok c =
-    let began = c.no_pool_is_lost.ensures.no_pools pool_id c.args.allocator.now (ledger_logged c.args.device.now) c.requires.began in
+    let began = c.no_pool_is_lost.ensures.no_pools pool_id c.args.allocator.now (ledger_of c.args.device.now) c.requires.began in
     let none = c.requires.none in
     let came = c.in-Ok.ensures.hands_out.totals.0 in
     let back = c.free_all.ensures.returns.back.outstanding in
@@ -14,5 +14,5 @@ returns-in-Ok c =
 
 pub returns-in-Err : goal.returns-in-Err
 returns-in-Err c =
-    let began = c.no_pool_is_lost.ensures.no_pools pool_id c.args.allocator.now (ledger_logged c.args.device.now) c.requires.began in
+    let began = c.no_pool_is_lost.ensures.no_pools pool_id c.args.allocator.now (ledger_of c.args.device.now) c.requires.began in
     record { pools = c.cleanup-in-Err.ensures.cleans_up.emptied (c.in-Err.ensures.hands_out.totals_stay.0 ∙ c.requires.none) ∙ c.allocate.ensures.keeps.others ∙ began }

@@ -1,4 +1,4 @@
-use Rattle.descriptor_script.specs.Scripted.Logged.{ledger_logged}
+use Rattle.descriptor_vectors.specs.Logged.{ledger_logged}
 use Rattle.descriptor_script.specs.Sessions.Session.{value_of}
 use Rattle.descriptor_vectors.proofs.Beside.{new_ready, none_shared}
 use Rattle.descriptor_vectors.proofs.pair.Pair.new.Goals as goal

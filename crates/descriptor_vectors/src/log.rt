@@ -65,12 +65,14 @@ impl Log {
         self.owed += owes;
     }
 
-    /// Puts a call in the place of `count` owed ones. A device whose conditions are kept owes a
-    /// call for each live pool and each live set, so none is left out.
-    pub(crate) fn settle(&mut self, call: Call, count: usize) {
-        if count > 0 && count <= self.owed {
-            self.calls.push_reserved(call);
-            self.owed -= count;
-        }
+    /// Puts a call in the place of `count` owed ones.
+    pub(crate) fn settle(&mut self, call: Call, count: usize)
+        requires some { 0 < count }
+        requires enough { count ≤ self.old.owed }
+        ensures calls { self.new.calls.items ≡ self.old.calls.items ++ call ∷ [] }
+        ensures owed { self.new.owed + count ≡ self.old.owed }
+    {
+        self.calls.push_reserved(call);
+        self.owed -= count;
     }
 }
