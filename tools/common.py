@@ -213,16 +213,23 @@ def is_fault(answers):
     return answers.splitlines()[-1:] and answers.splitlines()[-1].startswith(b"line ")
 
 
-def golden_tests():
-    """Each golden test, its name with a number after it that tells tests of one name apart. After a faulty
-    line comes one more, which is not to be run."""
-    counts = {}
+def golden_files():
+    """By the name of each golden file its tests, the name of each with a number after it that tells tests of one name
+    apart. After a faulty line comes one more, which is not to be run."""
+    counts, files = {}, {}
     for path in sorted(glob.glob(f"{TOP}/golden/*.txt")):
+        tests = files[os.path.basename(path).removesuffix(".txt")] = []
         for name, lines, answers in golden_tests_of(path):
             counts[name] = counts.get(name, 0) + 1
             if is_fault(answers) and lines.endswith(b"\n"):
                 lines += b"show\n"
-            yield f"{name}-{counts[name]}", lines, answers
+            tests.append((f"{name}-{counts[name]}", lines, answers))
+    return files
+
+
+def golden_tests():
+    """All golden tests, as `golden_files` has them."""
+    return [it for tests in golden_files().values() for it in tests]
 
 
 # Before a command that might wait for ever, such as a test. Its exit code then is 124.

@@ -1,12 +1,15 @@
-//! The public interface, item by item (`interface`); a device that lists its calls; and tests: callers of all crates,
-//! each once with ample memory, which succeed; no clause says that. Tests have a crate of their own, since CI proves a
-//! crate with tests twice. What the packages for Rust have too is tested there.
+//! The public interface, item by item (`interface`); a device that lists its calls; and tests that rt ci alone runs, with
+//! ample memory: callers of all crates, and the golden tests. No clause says that they
+//! succeed. Tests have a crate of their own, since CI proves a crate with tests twice. Most of what the packages for
+//! Rust have too is tested there.
 #![tactic(auto)]
 
 #[cfg(test)]
 mod callers;
 #[cfg(test)]
 mod frames;
+#[cfg(test)]
+mod golden;
 mod interface;
 mod log;
 mod log_device;
@@ -17,9 +20,13 @@ mod pair;
 #[cfg(test)]
 mod refused_first;
 #[cfg(test)]
+mod runs;
+#[cfg(test)]
 mod seen;
 #[cfg(test)]
 mod sets;
+#[cfg(test)]
+mod streams;
 #[cfg(test)]
 mod values;
 #[cfg(test)]
