@@ -1,6 +1,6 @@
 -- What a set manager's store has (the table of its sets, and the allocator over a device), and what its calls do.
 use Rattle.std.specs.Prelude.{◌≡◌, ◌≢◌, ℕ, ◌+◌, ◌-◌, ◌<◌, ◌≤◌, ◌⊎◌, ◌||◌, true, not, Bool, List, [], ◌∷◌, length, slice_index_or, if◌then◌else◌, is_some, Option, Result, Some, Ok, Err, None, IfErr, IsOk, OnOk}
-use Rattle.gpu_descriptor_types.specs.Ledger.{Pool}
+use Rattle.gpu_descriptor_types.specs.Ledger.{Ledger, Pool}
 use Rattle.gpu_descriptor.specs.Caller.Others.{others_of}
 use Rattle.gpu_descriptor_types.specs.Meaning.{Meaning}
 use Rattle.gpu_descriptor_types.specs.Side.{Side, side}
@@ -11,6 +11,7 @@ use Rattle.gpu_descriptor.specs.Caller.Frees.{Returns}
 use Rattle.gpu_descriptor.specs.Caller.HandsOut.{HandsOut}
 use Rattle.gpu_descriptor.specs.Caller.SetLayouts.{IsMeant}
 use Rattle.gpu_descriptor.specs.Caller.Sets.{AreOfLayout, IsSetOf, items_of}
+use Rattle.gpu_descriptor.specs.Caller.States.{outstanding_of}
 use Rattle.gpu_descriptor.specs.Caller.Values.{Allocations}
 use Rattle.gpu_descriptor.specs.Model.Agreement.{Item, count_of}
 use Rattle.gpu_descriptor.specs.Model.Load.{set_descriptors}
@@ -146,6 +147,15 @@ module _ {L P S D : Type 0} {d : Ghosts D L P S} where
     pub mid : Side (Allocations P)
     pub back : GaveBack d.meaning (side_of old) mid
     pub cleans : Sweeps true d.meaning mid (side_of new)
+
+  -- all sets returned to their pools, by one free_from, and then all pools, which are empty, were destroyed. That left the ledger, so nothing else was called
+  pub record ShutsDown (old : StoreOver d) (ledger : Ledger) : Type 0 where
+    pub mid : Side (Allocations P)
+    pub back : GaveBack d.meaning (side_of old) mid
+    pub none : outstanding_of mid.value ≡ 0
+    pub end : Side (Allocations P)
+    pub destroys : Sweeps true d.meaning mid end
+    pub leaves : ledger ≡ end.ledger
 
   -- the table had no room for `many` sets, and an allocation for more slots failed. The allocator was not asked
   pub record LacksRoom (many : ℕ) (error : AllocationError) (old new : StoreOver d) : Type 0 where

@@ -10,7 +10,7 @@ ghost use Rattle.descriptor_table.specs.Tables.{MayBecome, Turns, holds, is_kept
 ghost use Rattle.descriptor_table.specs.Tables.{vacated};
 ghost use Rattle.descriptor_manager.specs.LayoutRegistries.{layout_slots, registry_of};
 ghost use Rattle.descriptor_manager.specs.Own.{HasSetsOf};
-ghost use Rattle.descriptor_manager.specs.Stores.{AreCleaned, Cleans, FreesSets, Removes};
+ghost use Rattle.descriptor_manager.specs.Stores.{AreCleaned, Cleans, FreesSets, Removes, ShutsDown};
 
 mod frames;
 mod pools;
@@ -320,7 +320,8 @@ impl<L: Drop, P: Drop, S: Drop, D: DescriptorDevice<L, P, S>> SetManager<L, P, S
     /// Frees all sets, destroys all pools, and returns the device. It can't fail. The device must be
     /// done with all work.
     pub fn shutdown(mut self) -> D
-        ensures { (D.ledger result).pools ≡ pools_besides self }
+        ensures pools { (D.ledger result).pools ≡ pools_besides self }
+        ensures calls { ShutsDown (store_of self) (D.ledger result) }
     {
         self.free_all();
         self.cleanup();
