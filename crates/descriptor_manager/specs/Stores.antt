@@ -1,5 +1,5 @@
 -- What a set manager's store has (the table of its sets, and the allocator over a device), and what its calls do.
-use Rattle.std.specs.Prelude.{◌≡◌, ◌≢◌, ℕ, ◌+◌, ◌-◌, ◌<◌, ◌≤◌, ◌⊎◌, ◌||◌, true, not, Bool, List, [], ◌∷◌, length, slice_index_or, if◌then◌else◌, is_some, Option, Result, Some, Ok, Err, None, IfErr, IsOk, OnOk}
+use Rattle.std.specs.Prelude.{◌≡◌, ◌≢◌, ℕ, ◌+◌, ◌-◌, ◌<◌, ◌≤◌, ◌⊎◌, ◌||◌, true, not, Bool, List, [], ◌∷◌, length, slice_index_or, if◌then◌else◌, is_some, Option, Result, Some, Ok, Err, None, IfErr, IsOk, OnOk, vec_capacity}
 use Rattle.gpu_descriptor_types.specs.Ledger.{Ledger, Pool}
 use Rattle.gpu_descriptor.specs.Caller.Others.{others_of}
 use Rattle.gpu_descriptor_types.specs.Meaning.{Meaning}
@@ -119,11 +119,15 @@ module _ {L P S D : Type 0} {d : Ghosts D L P S} where
   abbrev pub KeepsStore : StoreOver d → StoreOver d → Type 0
   KeepsStore old new = StoreStays (settings_of old.table) old new
 
-  -- the slots, the allocator and the ledger are as they were, and the same sets are on their way into the table
+  -- the slots, the allocator and the ledger are as they were, and so are the sets on their way into the table
   pub record KeepsContents (old new : StoreOver d) : Type 0 where
     pub slots : slots_in new ≡ slots_in old
     pub side : side_of new ≡ side_of old
-    pub coming : new.coming.items ≡ old.coming.items
+    pub coming : new.coming ≡ old.coming
+
+  -- there is memory for at most 1024 new sets, or for as many as before
+  abbrev pub KeepsMemory : StoreOver d → StoreOver d → Type 0
+  KeepsMemory old new = (vec_capacity new.coming ≤ 1024) ⊎ (new.coming ≡ old.coming)
 
   -- each set was in its slot before, under its layout, or passes the test; none is on its way into the table
   pub record SettlesTo (these : Settings) (comes : ℕ → CompactDescriptorSet S → Type 0) (old new : StoreOver d) : Type 0 where

@@ -6,7 +6,7 @@ ghost use Rattle.std.specs.Option.{option_copied};
 ghost use Rattle.gpu_descriptor.specs.Caller.Sets.{raw_in};
 ghost use Rattle.descriptor_table.specs.Sets.{AllFit, AreHeldOnce, LoseNames};
 ghost use Rattle.descriptor_table.specs.Slots.{is_live};
-ghost use Rattle.descriptor_manager.specs.Stores.{FreesSets, IsFreed, IsRefusedAtLast, Takes};
+ghost use Rattle.descriptor_manager.specs.Stores.{FreesSets, IsFreed, IsRefusedAtLast, KeepsMemory, Takes};
 ghost use Rattle.descriptor_table.specs.Tables.{Becomes, TurnEach, Turns, used_for, vacated};
 
 use super::SetManager;
@@ -109,6 +109,7 @@ impl<L: Drop, P: Drop, S: Drop, D: DescriptorDevice<L, P, S>> SetManager<L, P, S
         ensures fit { OnOk result (AllFit N.handle_of N.fit (slots_of self.new) sets.new) }
         ensures long { length sets.new ≡ length sets.old }
         ensures handles { OnErr result (sets.new ≡ sets.old) }
+        ensures memory { KeepsMemory (store_of self.old) (store_of self.new) }
         ensures sets { OnlySetsCome result self.old self.new }
     {
         let Some(known) = self.layouts.get(layout) else {

@@ -29,7 +29,7 @@ impl<L: Drop, P: Drop, S: Drop, D: DescriptorDevice<L, P, S>> Store<L, P, S, D> 
         ensures frees { FreesSets (Turns (is_of group) (Becomes vacated)) self.old self.new }
         ensures keeps { Keeps D.meaning (side_of self.old) (side_of self.new) }
         ensures stays { KeepsStore self.old self.new }
-        ensures coming { self.new.coming.items ≡ self.old.coming.items }
+        ensures coming { self.new.coming ≡ self.old.coming }
     {
         if self.table.is_empty(group) {
             // A proof knows the allocator's invariant only from what its readers promise.
@@ -45,7 +45,7 @@ impl<L: Drop, P: Drop, S: Drop, D: DescriptorDevice<L, P, S>> Store<L, P, S, D> 
         ensures frees { FreesSets (Turns (is_of group) (Becomes vacated)) self.old self.new }
         ensures keeps { Keeps D.meaning (side_of self.old) (side_of self.new) }
         ensures stays { KeepsStore self.old self.new }
-        ensures coming { self.new.coming.items ≡ self.old.coming.items }
+        ensures coming { self.new.coming ≡ self.old.coming }
     {
         let mut sets = Returning {
             table: &mut self.table,
@@ -65,7 +65,7 @@ impl<L: Drop, P: Drop, S: Drop, D: DescriptorDevice<L, P, S>> Store<L, P, S, D> 
             → ((side_of self.new).ledger).pools ≡ pools_besides self.old }
         ensures cleans { Cleans self.old self.new }
         ensures settles { Settles NoneComes self.old self.new }
-        ensures coming { self.new.coming.items ≡ self.old.coming.items }
+        ensures coming { self.new.coming ≡ self.old.coming }
     {
         self.table.age();
         self.table.trim(0);

@@ -35,7 +35,7 @@ impl<L: Drop, P: Drop, S: Drop, D: DescriptorDevice<L, P, S>> Store<L, P, S, D> 
         ensures as_many { length (slots_in self.new) ≡ length (slots_in self.old) }
         ensures table { (n : ℕ) → HasRoom n self.old.table → HasRoom n self.new.table }
         ensures keeps { Holds NoneComes self.old self.new }
-        ensures coming { self.new.coming.items ≡ self.old.coming.items }
+        ensures coming { self.new.coming ≡ self.old.coming }
     {
         self.table.hold_kept(layout, used)
     }
@@ -59,7 +59,7 @@ impl<L: Drop, P: Drop, S: Drop, D: DescriptorDevice<L, P, S>> Store<L, P, S, D> 
         ensures as_many { length (slots_in self.new) ≡ length (slots_in self.old) }
         ensures table { (n : ℕ) → HasRoom n self.old.table → HasRoom n self.new.table }
         ensures keeps { Holds NoneComes self.old self.new }
-        ensures coming { self.new.coming.items ≡ self.old.coming.items }
+        ensures coming { self.new.coming ≡ self.old.coming }
     {
         for index in 0..names.len() {
             names[index] = self.hold_next(layout, used);

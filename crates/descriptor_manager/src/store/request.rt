@@ -11,7 +11,7 @@ impl<L: Drop, P: Drop, S: Drop, D: DescriptorDevice<L, P, S>> Store<L, P, S, D> 
     ghost use Rattle.descriptor_table.specs.Slots.{frame_at, frame_of, is_live};
     ghost use Rattle.descriptor_table.specs.Tables.{HasLayout, HasRoom};
     ghost use Rattle.descriptor_manager.specs.Stores.{Asks, AsksAtLast, CanTake, IsAtRest, IsRefused};
-    ghost use Rattle.descriptor_manager.specs.Stores.{IsRefusedAtLast, KeepsStore, Requests};
+    ghost use Rattle.descriptor_manager.specs.Stores.{IsRefusedAtLast, KeepsMemory, KeepsStore, Requests};
     ghost use Rattle.descriptor_manager.specs.Stores.{NoneComes, Settles, handles_in, kept_of, side_of, slots_in};
 
     /// Asks the allocator for `many` sets of a layout. The table has room for them. If they are refused, the
@@ -49,6 +49,7 @@ impl<L: Drop, P: Drop, S: Drop, D: DescriptorDevice<L, P, S>> Store<L, P, S, D> 
         ensures refused { IfErr result (λ error. IsRefusedAtLast known.now.layout
             (many - kept_of layout self.old) many error self.old self.new) }
         ensures none { OnErr result (self.new.coming.items ≡ []) }
+        ensures memory { OnErr result (KeepsMemory self.old self.new) }
         ensures table { OnOk result (HasRoom (length self.new.coming.items) self.new.table) }
         ensures stays { KeepsStore self.old self.new }
     {
@@ -139,6 +140,7 @@ impl<L: Drop, P: Drop, S: Drop, D: DescriptorDevice<L, P, S>> Store<L, P, S, D> 
             (N.handles_of names.new) result self.old self.new }
         ensures fit { OnOk result (AllFit N.handle_of N.fit (slots_in self.new) names.new) }
         ensures long { length names.new ≡ length names.old }
+        ensures memory { KeepsMemory self.old self.new }
         ensures names { OnErr result (names.new ≡ names.old) }
     {
         if names.len() > self.table.kept_count(layout) as usize {
@@ -164,6 +166,7 @@ impl<L: Drop, P: Drop, S: Drop, D: DescriptorDevice<L, P, S>> Store<L, P, S, D> 
             (N.handles_of names.new) result self.old self.new }
         ensures fit { OnOk result (AllFit N.handle_of N.fit (slots_in self.new) names.new) }
         ensures long { length names.new ≡ length names.old }
+        ensures memory { KeepsMemory self.old self.new }
         ensures names { OnErr result (names.new ≡ names.old) }
     {
         self.bring(known, layout, names.len() as u32)?;

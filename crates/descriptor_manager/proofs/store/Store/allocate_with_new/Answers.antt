@@ -36,7 +36,7 @@ hold_coming-requires-clause-known g c =
     let known = c.args.known.now.layout in
     let brings = brought known c.args.layout (length c.args.names.now) c.args.self.now c.bring.new.self c.requires.short c.in_ok-bring.ensures.asks in (
       known,
-      subst (AreSetsOf d.meaning known) (sym c.hold_kept.ensures.coming) brings.own,
+      subst (AreSetsOf d.meaning known) (sym (ap (λ v. v.items) c.hold_kept.ensures.coming)) brings.own,
       all_of_after d.meaning known c.args.layout NoneComes _ _ (λ n x none. absurd none) c.hold_kept.ensures.keeps.sets (still_all_of _ _ _ _ _ brings c.requires.can.own),
     )
 
@@ -49,7 +49,7 @@ pub returns-clause-requests : goal.returns-clause-requests
 returns-clause-requests g c =
     let a = (goal.at.returns-clause-requests g c).After-hold_coming in
     let kept = c.hold_kept.ensures.keeps in
-    let came = c.hold_coming.ensures.keeps c.args.known.now.layout (subst (AreSetsOf g.D.DescriptorDevice.meaning c.args.known.now.layout) (sym c.hold_kept.ensures.coming) (brings g a).own) in
+    let came = c.hold_coming.ensures.keeps c.args.known.now.layout (subst (AreSetsOf g.D.DescriptorDevice.meaning c.args.known.now.layout) (sym (ap (λ v. v.items) c.hold_kept.ensures.coming)) (brings g a).own) in
     from_asked _ _ _ _ _ c.bring.new.self c.requires.can.rest c.requires.short _ _ _ refl c.bring.ensures.stays c.in_ok-bring.ensures.asks
     (all_held g a) (first g a)
     (holds_after NoneComes (ComesOf g.D.DescriptorDevice.meaning c.args.known.now.layout c.args.layout) _ _ _ _ _ _ _ (λ n x none. absurd none) refl c.hold_coming.ensures.holds kept came)

@@ -1,4 +1,4 @@
-use Rattle.descriptor_manager.proofs.Common.{◌∙◌, rules}
+use Rattle.descriptor_manager.proofs.Common.{ap, ◌∙◌, rules}
 use Rattle.descriptor_manager.proofs.Given.{accounted_as, exact_as, turned_whole}
 use Rattle.descriptor_manager.proofs.Back.{cleaned}
 use Rattle.descriptor_manager.proofs.Arriving.{arrived, clears, clears_arrives}
@@ -14,4 +14,4 @@ pub returns-clause-cleaned : goal.returns-clause-cleaned
 returns-clause-cleaned g c = search (rules, cleaned)
 
 pub returns-clause-settles : goal.returns-clause-settles
-returns-clause-settles g c = arrived _ _ _ (λ p. clears_arrives _ _ _ (clears _ _ (returns-clause-cleaned g c) p)) (c.give.ensures.coming ∙ c.requires.rest.none_coming) c.requires.rest (search rules)
+returns-clause-settles g c = arrived _ _ _ (λ p. clears_arrives _ _ _ (clears _ _ (returns-clause-cleaned g c) p)) (ap (λ v. v.items) c.give.ensures.coming ∙ c.requires.rest.none_coming) c.requires.rest (search rules)

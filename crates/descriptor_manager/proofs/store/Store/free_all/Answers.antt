@@ -1,4 +1,4 @@
-use Rattle.descriptor_manager.proofs.Common.{◌∙◌, is_some, rules, Becomes, Turns, slots_of, vacated}
+use Rattle.descriptor_manager.proofs.Common.{ap, ◌∙◌, is_some, rules, Becomes, Turns, slots_of, vacated}
 use Rattle.descriptor_manager.proofs.Given.{accounted_as, exact_as, turned_whole}
 use Rattle.descriptor_manager.proofs.Back.{all_leave, left_follows}
 use Rattle.descriptor_manager.proofs.Arriving.{arrived}
@@ -18,4 +18,4 @@ pub returns-clause-frees : goal.returns-clause-frees
 returns-clause-frees g c = record { turns = left g (goal.at.returns-clause-frees g c).After-give; back = c.give.ensures.frees.back }
 
 pub returns-clause-settles : goal.returns-clause-settles
-returns-clause-settles g c = arrived _ _ _ (λ p. left_follows _ _ (left g (goal.at.returns-clause-settles g c).After-give) p _) (c.give.ensures.coming ∙ c.requires.rest.none_coming) c.requires.rest (search rules)
+returns-clause-settles g c = arrived _ _ _ (λ p. left_follows _ _ (left g (goal.at.returns-clause-settles g c).After-give) p _) (ap (λ v. v.items) c.give.ensures.coming ∙ c.requires.rest.none_coming) c.requires.rest (search rules)

@@ -1,4 +1,4 @@
-use Rattle.descriptor_manager.proofs.Common.{◌∙◌, refl, rules, IsBack, TurnEach, removed_of, slots_of, vacated}
+use Rattle.descriptor_manager.proofs.Common.{ap, ◌∙◌, refl, rules, IsBack, TurnEach, removed_of, slots_of, vacated}
 use Rattle.descriptor_manager.proofs.Given.{accounted_as, any_whole, exact_as}
 use Rattle.descriptor_manager.proofs.Arriving.{follow_each, follows_back, arrived}
 use Rattle.descriptor_manager.proofs.Back.{back_each}
@@ -25,4 +25,4 @@ pub returns-clause-settles : goal.returns-clause-settles
 returns-clause-settles g c =
     let s = c.args.self.now in
     let turns = back g (goal.at.returns-clause-settles g c).After-give in
-    arrived _ s c.give.new.self (follow_each turns (follows_back (removed_of s.table) s.table.keep (slots_of c.give.new.self.table))) (c.give.ensures.coming ∙ c.requires.rest.none_coming) c.requires.rest (search rules)
+    arrived _ s c.give.new.self (follow_each turns (follows_back (removed_of s.table) s.table.keep (slots_of c.give.new.self.table))) (ap (λ v. v.items) c.give.ensures.coming ∙ c.requires.rest.none_coming) c.requires.rest (search rules)

@@ -11,5 +11,5 @@ invariant-loop-index g l = record {
   as_many : length (slots_in l.self) ≡ length (slots_in l.fn.self);
   table : (n : ℕ) → HasRoom n l.fn.self.table → HasRoom n l.self.table;
   keeps : Holds NoneComes l.fn.self l.self;
-  coming : l.self.coming.items ≡ l.fn.self.coming.items;
+  coming : l.self.coming ≡ l.fn.self.coming;
 }

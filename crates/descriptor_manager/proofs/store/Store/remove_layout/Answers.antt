@@ -21,7 +21,7 @@ returns-clause-removes g c =
       trims = c.trim_layout.ensures.trims;
       gave = λ t. (
           let coming = λ (l : List (DescriptorSet g.row.S.Denot)). count_of t (items_of g.D.DescriptorDevice.meaning.set_name l) in
-          let none = ap coming c.give.ensures.coming in
+          let none = ap coming (ap (λ v. v.items) c.give.ensures.coming) in
           let back = c.give.ensures.frees.back.returns.back.returned t in
           let same : coming (whole_sets c.remove_layout.new.self) ≡ coming (whole_sets c.give.new.self.table) = (λ i. coming (filter_map (whole_in (c.remove_layout.ensures.ids i)) (table.slots_in (c.remove_layout.ensures.slots i)))) in
           omega arith

@@ -1,4 +1,4 @@
-use Rattle.descriptor_manager.proofs.Common.{common_steps, ◌∙◌, ◌+◌, subst, arith, rules, filter_map, goes, Turns, Becomes, is_kept, slots_of, vacated, MayBecome, whole_in}
+use Rattle.descriptor_manager.proofs.Common.{ap, common_steps, ◌∙◌, ◌+◌, subst, arith, rules, filter_map, goes, Turns, Becomes, is_kept, slots_of, vacated, MayBecome, whole_in}
 use Rattle.descriptor_table.specs.Slots.{slots_in}
 use Rattle.descriptor_manager.proofs.Given.{accounted_as, exact_as, turned_whole}
 use Rattle.descriptor_manager.proofs.Back.{given_kept, left}
@@ -27,4 +27,4 @@ pub returns-clause-as_many : goal.returns-clause-as_many
 returns-clause-as_many g c = grind (arith, common_steps, given_kept, gives)
 
 pub returns-clause-settles : goal.returns-clause-settles
-returns-clause-settles g c = arrived _ _ _ (follow_turns (all g c) (λ o n step. search (rules, follows_vacated, same_arrives))) (c.give.ensures.coming ∙ c.requires.rest.none_coming) c.requires.rest (search rules)
+returns-clause-settles g c = arrived _ _ _ (follow_turns (all g c) (λ o n step. search (rules, follows_vacated, same_arrives))) (ap (λ v. v.items) c.give.ensures.coming ∙ c.requires.rest.none_coming) c.requires.rest (search rules)
