@@ -16,6 +16,7 @@ DEFINED = re.compile(r"^ *(?:(?:abbrev|unfoldable) pub|pub (record|data)) (\w+)\
 FUNCTION = re.compile(r"^( *)((?:pub(?:\(\w+\))? )?)(?:const )?(?:unsafe )?(?:extern \"C\" )?fn (\w+)", re.M)
 AROUND = re.compile(r"^(?:pub(?:\(\w+\))? )?(impl|trait|struct|enum)\b(.*(?:\n    where.*)?)", re.M)
 CLAUSE = re.compile(r"^ *(requires|ensures)\*? (?:(\w+) )?\{", re.M)
+EXPORT = re.compile(r"^pub (?:mod (\w+)|use (\w+)[\w:]*::(?:\{([^}]*)\}|(\w+)));", re.M)
 
 
 def sources(crate, kind, ending):
@@ -120,6 +121,23 @@ def has_clause(crate, text):
     kind, _, name = function.rpartition("::")
     fits = [it for it in FUNCTIONS if it.crate == crate and it.name == name and kind in ("", it.type or it.path.stem)]
     return clause in GHOSTS.get((crate, function), ()) or any(clause in {*it.requires, *it.ensures} for it in fits)
+
+
+def exports(crate):
+    """The names that a library exports: public modules, items of its own, and items of other crates here."""
+    modules, own, others = set(), set(), set()
+    for module, first, several, one in EXPORT.findall((TOP / "crates" / crate / "src/lib.rt").read_text()):
+        names = {it.strip() for it in (several or one).split(",")} - {""}
+        modules.update({module} - {""})
+        (others if first in CRATES else own).update(names)
+    return modules, own, others
+
+
+def exported_functions(crate):
+    """The functions that a library exports of itself: of public modules, by their names, and of exported types and traits."""
+    modules, own, _ = exports(crate)
+    return [it for it in FUNCTIONS if it.crate == crate and it.is_public and not it.trait
+            and (it.type in own if it.type else it.name in own or it.path.stem in modules)]
 
 
 def index(crates):

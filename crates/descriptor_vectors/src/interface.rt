@@ -6,6 +6,7 @@ mod allocator;
 mod device;
 mod frames;
 mod lines;
+mod manager;
 mod session;
 
 use std::fmt::Debug;

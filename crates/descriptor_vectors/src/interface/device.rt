@@ -1,5 +1,5 @@
 //! Counts, flags, errors, layouts, sinks, pool sizes, and the calls of a device.
-ghost use Rattle.std.specs.Prelude.{◌≡◌, ◌<◌};
+ghost use Rattle.std.specs.Prelude.{All, ◌≡◌, ◌*◌, ◌<◌, ◌≤◌, ◌^◌};
 ghost use Rattle.std.specs.Iterator.{HoldsAlong};
 ghost use Rattle.std.specs.Prelude.{map};
 ghost use Rattle.gpu_descriptor_types.specs.Counts.{kinds};
@@ -10,7 +10,9 @@ use super::{is_debug, is_hashed_value, is_value};
 use bitflags::Flags;
 use gpu_descriptor_types::{
     CreatePoolError, DescriptorDevice, DescriptorPoolCreateFlags, DescriptorTotalCount,
-    DeviceAllocationError, Layouts, SetSink, bounded_pool_size, cut_pool_size, new_pool_size,
+    DeviceAllocationError, Layouts, SetSink, Tally, bounded_pool_sets, bounded_pool_size,
+    counts_of_sets, cut_pool_sets, cut_pool_size, greatest_count, laws, new_pool_sets,
+    new_pool_size, pool_sets_for_greatest,
 };
 
 /// The fourteen kinds, in their order.
@@ -49,6 +51,11 @@ fn kinds_in_order(counts: DescriptorTotalCount) -> [u32; 14]
         inline_uniform_block_bytes,
         inline_uniform_block_bindings,
     ]
+}
+
+fn kind_at(counts: &mut DescriptorTotalCount, place: usize) -> ([u32; 14], bool) {
+    let counts_before: [u32; 14] = counts.to_array();
+    (counts_before, counts.set_kind(place, 1))
 }
 
 fn total_of_none() -> u64 {
@@ -116,6 +123,10 @@ fn length_of<L>(layouts: &Layouts<'_, L>) -> u32 {
     layouts.len()
 }
 
+fn layout_of<'a, L>(layouts: &Layouts<'a, L>) -> &'a L {
+    layouts.layout()
+}
+
 fn put<S, K: SetSink<S>>(sink: &mut K, set: S) -> usize
     requires { 0 < K.sink.room sink.old }
 {
@@ -130,6 +141,35 @@ fn size_of_a_pool(counts: &DescriptorTotalCount, total: u64) -> (DescriptorTotal
 
 fn size_in_room(counts: &DescriptorTotalCount, room: u32) -> Option<(DescriptorTotalCount, u32)> {
     cut_pool_size(counts, u64::MAX, u32::MAX, room)
+}
+
+fn sets_of_a_pool(counts: &DescriptorTotalCount, total: u64) -> [u32; 3] {
+    let sets: u32 = new_pool_sets(counts, total, u32::MAX);
+    let alike: u32 = pool_sets_for_greatest(greatest_count(counts), total, u32::MAX);
+    [sets, alike, bounded_pool_sets(counts, sets, u32::MAX, None)]
+}
+
+fn sets_in_room(counts: &DescriptorTotalCount, sets: u32, room: u32) -> Option<u32>
+    requires { 1 ≤ sets }
+{
+    cut_pool_sets(counts, sets, room)
+}
+
+fn counts_in_a_pool(counts: &DescriptorTotalCount, sets: u32) -> DescriptorTotalCount
+    requires { All (λ count. count * sets < 2 ^ 32) (kinds counts.now) }
+{
+    counts_of_sets(counts, sets)
+}
+
+fn one_more() -> Tally {
+    let before: Tally = Tally::zero();
+    Tally::next(&before)
+}
+
+fn laws_that_are_called() {
+    laws::counts_are_their_kinds();
+    laws::flags_are_their_bits();
+    laws::errors_are_their_cases();
 }
 
 fn create<L, P, S, D: DescriptorDevice<L, P, S>>(

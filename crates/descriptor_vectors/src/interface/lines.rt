@@ -1,11 +1,49 @@
 //! The line program.
+ghost use Rattle.std.specs.Prelude.{◌≡◌, []};
+ghost use Rattle.descriptor_script.specs.Scripted.Device.{empty_ledger};
+
 use super::is_value;
-use descriptor_lines::{Exit, run_lines};
-use std::alloc::Global;
+use descriptor_lines::{Exit, LineDevice, ScriptedMeaning, kinds_answer, run_lines, run_lines_on};
+use descriptor_script::Answer;
+use std::alloc::{AllocError, Global};
 use std::io::{Read, Write};
 
 fn run<R: Read, W: Write>(alloc: Global, input: &mut R, output: &mut W) -> Exit {
     run_lines(alloc, input, output)
+}
+
+fn run_on<D: LineDevice + Drop, R: Read, W: Write>(
+    alloc: Global,
+    device: D,
+    input: &mut R,
+    output: &mut W,
+) -> (Exit, D)
+    requires ledger { D.ledger device ≡ empty_ledger }
+    requires script { D.script device ≡ [] }
+{
+    run_lines_on(alloc, device, input, output)
+}
+
+fn means_its_script<D: ScriptedMeaning>() {}
+
+fn hear<D: LineDevice>(device: &mut D, line: &[u8], words: Vec<Answer>) -> bool {
+    means_its_script::<D>();
+    device.hear(line);
+    device.load(words);
+    device.has_lost()
+}
+
+fn counters<D: LineDevice>(device: &D) -> [u64; 4] {
+    [
+        device.created(),
+        device.destroyed(),
+        device.asked(),
+        device.released(),
+    ]
+}
+
+fn answer(answer: &mut String, counts: &[u32; 14]) -> Result<(), AllocError> {
+    kinds_answer(answer, counts)
 }
 
 fn name_of(exit: Exit) -> &'static str {
