@@ -14,4 +14,4 @@ mod words;
 pub use answer::kinds_answer;
 pub use device::{LineDevice, ScriptedMeaning};
 pub use exit::Exit;
-pub use program::{run_lines, run_lines_on};
+pub use program::{run_lines, run_lines_on, write_bytes};

@@ -31,6 +31,8 @@ use std::io::{Read, Write};
 use std::string::String;
 use std::vec::Vec;
 
+pub use output::write_bytes;
+
 /// Enough bytes for most answers and for every line of a fault.
 const ANSWER_LEN: usize = 1024;
 

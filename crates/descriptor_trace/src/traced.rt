@@ -1,6 +1,8 @@
 //! A device that writes down what passes through it.
 ghost use Rattle.std.specs.Prelude.{◌≡◌, ◌+◌, [], map, None, IsFalse, IsOk, IfErr, IfOk};
 ghost use Rattle.std.specs.Prelude.{OnErr, OnOk, length, string_bytes};
+ghost use Rattle.std.specs.Io.KnownBytes.{Appends, Keeps};
+ghost use Rattle.descriptor_lines.specs.Outcomes.{AppendsPrefix};
 ghost use Rattle.std.specs.Iterator.{HoldsAlong};
 ghost use Rattle.gpu_descriptor_types.specs.Counts.{kinds};
 ghost use Rattle.gpu_descriptor_types.specs.Flags.{bits};
@@ -15,7 +17,7 @@ ghost use Rattle.descriptor_trace.specs.TraceTexts as says;
 ghost use Rattle.descriptor_trace.specs.Traced.{WritesDown};
 
 use crate::text;
-use descriptor_lines::{LineDevice, ScriptedMeaning};
+use descriptor_lines::{Exit, LineDevice, ScriptedMeaning, write_bytes};
 use descriptor_script::{Answer, RawPool, RawSet, ScriptLayout, ScriptedDevice};
 use gpu_descriptor::{
     CreatePoolError, DescriptorDevice, DescriptorPoolCreateFlags, DescriptorTotalCount,
@@ -59,12 +61,14 @@ impl<W: Write> Traced<W> {
     fn write_text(&mut self, made: Result<(), AllocError>)
         ensures device { self.new.device ≡ self.old.device }
         ensures made { IsFalse self.new.has_lost → IsOk made }
+        ensures unmade { OnErr made (Keeps (W.contents self.old.output)
+            (W.contents self.new.output)) }
         ensures written { WritesDown W.contents self.old self.new (string_bytes self.old.text) }
     {
         if self.has_lost {
             return;
         }
-        if made.is_err() || self.output.write_all(self.text.as_bytes()).is_err() {
+        if made.is_err() || write_bytes(&mut self.output, self.text.as_bytes()).is_err() {
             self.has_lost = true;
         }
     }
@@ -78,6 +82,18 @@ impl<W: Write> Traced<W> {
         let made = text::release_line(&mut self.text, pool, sets);
         self.write_text(made);
     }
+}
+
+/// Writes a line of the input as a comment.
+fn write_comment<W: Write>(output: &mut W, line: &[u8]) -> Result<(), Exit>
+    ensures written { OnOk result (Appends (W.contents output.old) (W.contents output.new)
+        (says.input_line line.now)) }
+    ensures part { OnErr result (AppendsPrefix (W.contents output.old) (W.contents output.new)
+        (says.input_line line.now)) }
+{
+    write_bytes(output, b"# ")?;
+    write_bytes(output, line)?;
+    write_bytes(output, b"\n")
 }
 
 impl<W: Write> DescriptorDevice<ScriptLayout, RawPool, RawSet> for Traced<W> {
@@ -214,11 +230,10 @@ impl<W: Write> LineDevice for Traced<W> {
         // The device's own, in addition to the trait's: the line is written down before its calls.
         ensures written { WritesDown W.contents self.old self.new (says.input_line line.now) }
     {
-        let is_written = !self.has_lost
-            && self.output.write_all(b"# ").is_ok()
-            && self.output.write_all(line).is_ok()
-            && self.output.write_all(b"\n").is_ok();
-        if !is_written {
+        if self.has_lost {
+            return;
+        }
+        if write_comment(&mut self.output, line).is_err() {
             self.has_lost = true;
         }
     }

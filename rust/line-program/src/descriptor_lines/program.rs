@@ -18,6 +18,8 @@ use crate::kit::io::{Read, Write};
 use crate::kit::string::String;
 use crate::kit::vec::Vec;
 
+pub use output::write_bytes;
+
 /// Enough bytes for most answers and for every line of a fault.
 const ANSWER_LEN: usize = 1024;
 

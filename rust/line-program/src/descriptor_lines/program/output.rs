@@ -17,14 +17,14 @@ pub fn answer_line<W: Write>(
 ) -> Result<(), Exit>
 {
     match outcome {
-        Ok(()) => write_text(output, answer.as_str())?,
-        Err(Refusal::NoMemory) => write_text(output, answer::NO_MEMORY)?,
+        Ok(()) => write_bytes(output, answer.as_bytes())?,
+        Err(Refusal::NoMemory) => write_bytes(output, answer::NO_MEMORY.as_bytes())?,
         Err(Refusal::Fault(fault)) => {
             answer.clear();
             // Memory for it is reserved since the start. If the text fails all the same, the line of the
             // fault isn't written, as if a write fails.
             answer::fault_line(answer, number, fault).map_err(|_| Exit::WriteFault)?;
-            write_text(output, answer.as_str())?;
+            write_bytes(output, answer.as_bytes())?;
             return Err(Exit::BadLine);
         }
     }
@@ -32,10 +32,10 @@ pub fn answer_line<W: Write>(
     Ok(())
 }
 
-/// Writes the whole text, where each write takes some of it.
-fn write_text<W: Write>(output: &mut W, text: &str) -> Result<(), Exit>
+/// Writes all of these bytes, where each write takes some of them.
+pub fn write_bytes<W: Write>(output: &mut W, bytes: &[u8]) -> Result<(), Exit>
 {
-    let mut rest = text.as_bytes();
+    let mut rest = bytes;
     while !rest.is_empty() {
         match output.write(rest) {
             Ok(0) | Err(_) => return Err(Exit::WriteFault),

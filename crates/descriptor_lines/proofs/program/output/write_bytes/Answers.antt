@@ -1,7 +1,7 @@
 use Rattle.std.proofs.Common.{◌≡◌, ℕ, ◌-◌, List, ◌++◌, length, take, drop, sym, ap, ◌∙◌, append_assoc, take-append-drop}
 use Rattle.std.proofs.lemmas.List.{take_rest}
 use Rattle.std.proofs.KnownBytes.{Appends-trans}
-use Rattle.descriptor_lines.proofs.program.output.write_text.Goals as goal
+use Rattle.descriptor_lines.proofs.program.output.write_bytes.Goals as goal
 
 moves_front : (all written rest : List ℕ) (n : ℕ) → all ≡ written ++ rest → all ≡ (written ++ take n rest) ++ take (length rest - n) (drop n rest)
 moves_front all written rest n split =

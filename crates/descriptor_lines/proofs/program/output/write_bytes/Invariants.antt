@@ -1,6 +1,6 @@
 use Rattle.std.proofs.Common.{◌≡◌, ℕ, List, ◌++◌, length}
 use Rattle.std.specs.Io.KnownBytes.{Appends}
-use Rattle.descriptor_lines.proofs.program.output.write_text.Given as goal
+use Rattle.descriptor_lines.proofs.program.output.write_bytes.Given as goal
 
 -- what is gone from `rest` was written
 abbrev pub invariant-loop-rest : goal.invariant-loop-rest
