@@ -26,12 +26,11 @@ use crate::layouts::LayoutTable;
 use crate::words::{Fault, Refusal};
 use descriptor_script::{RawPool, RawSet, ScriptLayout, ScriptedDevice, Session};
 use output::answer_line;
+pub use output::write_bytes;
 use std::alloc::Global;
 use std::io::{Read, Write};
 use std::string::String;
 use std::vec::Vec;
-
-pub use output::write_bytes;
 
 /// Enough bytes for most answers and for every line of a fault.
 const ANSWER_LEN: usize = 1024;

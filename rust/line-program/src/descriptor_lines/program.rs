@@ -13,12 +13,11 @@ use crate::descriptor_lines::layouts::LayoutTable;
 use crate::descriptor_lines::words::{Fault, Refusal};
 use crate::descriptor_script::{RawPool, RawSet, ScriptLayout, ScriptedDevice, Session};
 use output::answer_line;
+pub use output::write_bytes;
 use crate::kit::alloc::Global;
 use crate::kit::io::{Read, Write};
 use crate::kit::string::String;
 use crate::kit::vec::Vec;
-
-pub use output::write_bytes;
 
 /// Enough bytes for most answers and for every line of a fault.
 const ANSWER_LEN: usize = 1024;
