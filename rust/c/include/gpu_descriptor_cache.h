@@ -12,8 +12,10 @@
  * Only one thread at a time may use a cache; its calls may be GD_BUSY where those of the allocator are.
  *
  * Sets in a cache are live: their pools stay, and gd_destroy is GD_OUTSTANDING. So flush all caches before
- * gd_cleanup, gd_remove_layout, gd_free_all and gd_destroy. A set that has to wait for a frame doesn't go into
- * a cache: free it by gd_free_after, all sets of a frame and thread in one call.
+ * gd_cleanup, gd_remove_layout, gd_free_all and gd_destroy. After gd_free_all and gd_destroy, and after
+ * GD_INTERNAL_ERROR, gd_cache_allocate would still return sets of the cache, which may be freed by then. A set
+ * that has to wait for a frame doesn't go into a cache: free it by gd_free_after, all sets of a frame and thread
+ * in one call.
  *
  * The allocator checks sets only when the cache frees them. So a set that is freed twice into caches, or into
  * one of another layout, may be allocated twice. With GD_CACHE_CHECKED, for a debug build, a set that is in the

@@ -1,6 +1,7 @@
 //! A cache of sets, for threads that share a set manager behind a lock.
 
 use crate::manager::{FreeError, LayoutHandle, RequestError, SetHandle, SetManager};
+use crate::poison::{panics, refuse};
 use crate::{AllocationError, DescriptorDevice};
 use core::ops::DerefMut;
 use std_alloc::vec::Vec;
@@ -10,8 +11,9 @@ use std_alloc::vec::Vec;
 ///
 /// Each set has its raw one next to it, so no lock is needed to read that. For the set manager the sets of a
 /// cache are held: their pools stay, and dropping a cache frees none. So [`flush`](Self::flush) each cache
-/// before a `cleanup` or `remove_layout`. A set that has to wait for a frame doesn't go into a cache: pass those
-/// of a thread and frame to one `free_after`.
+/// before a `cleanup`, `remove_layout`, `free_all` or `shutdown`. After the last two
+/// [`allocate`](Self::allocate) would still return sets, which are freed by then. A set that has to wait for a
+/// frame doesn't go into a cache: pass those of a thread and frame to one `free_after`.
 ///
 /// ```
 /// # use gpu_descriptor::manager::{LayoutHandle, SetManager, SetCache};
@@ -31,6 +33,9 @@ use std_alloc::vec::Vec;
 pub struct SetCache<S> {
     layout: LayoutHandle,
     refill: usize,
+
+    /// How many calls had panicked when the set manager was last seen healthy; `None` before.
+    panics: Option<u32>,
 
     /// At most twice `refill` sets, and as many `handles` for calls of the set manager.
     sets: Vec<(SetHandle, S)>,
@@ -55,6 +60,7 @@ impl<S: Copy> SetCache<S> {
         Ok(SetCache {
             layout,
             refill,
+            panics: None,
             sets,
             handles,
         })
@@ -67,11 +73,17 @@ impl<S: Copy> SetCache<S> {
     }
 
     /// Takes a set from the cache. An empty cache takes the lock and is refilled; if the set manager
-    /// refuses `refill` sets, it asks for half as many, and so on.
+    /// refuses `refill` sets, it asks for half as many, and so on. A new cache takes the lock too, and each
+    /// cache does once after a call of an allocator of the process panicked: it sees whether its set manager
+    /// is poisoned.
     ///
     /// # Errors
     ///
     /// Same as [`SetManager::allocate`]: not even one set could be allocated.
+    ///
+    /// # Panics
+    ///
+    /// Same as [`SetManager::allocate`]: a cache of a poisoned set manager gives none of its sets.
     #[inline]
     pub fn allocate<L, P, D: DescriptorDevice<L, P, S>, G>(
         &mut self,
@@ -80,14 +92,35 @@ impl<S: Copy> SetCache<S> {
     where
         G: DerefMut<Target = SetManager<L, P, S, D>>,
     {
+        if self.panics == Some(panics()) {
+            if let Some(set) = self.sets.pop() {
+                return Ok(set);
+            }
+        }
+        self.allocate_locked(&mut lock())
+    }
+
+    /// `allocate` of a cache that is new or empty, or after a panic.
+    #[cold]
+    fn allocate_locked<L, P, D: DescriptorDevice<L, P, S>>(
+        &mut self,
+        manager: &mut SetManager<L, P, S, D>,
+    ) -> Result<(SetHandle, S), RequestError> {
+        let panics = panics();
+        if manager.is_poisoned() {
+            refuse();
+        }
+        if !manager.is_owner(self.layout) {
+            return Err(RequestError::NoLayout);
+        }
+        self.panics = Some(panics);
         match self.sets.pop() {
             Some(set) => Ok(set),
-            None => self.fill(&mut lock()),
+            None => self.fill(manager),
         }
     }
 
     /// Refills an empty cache, and takes a set.
-    #[cold]
     fn fill<L, P, D: DescriptorDevice<L, P, S>>(
         &mut self,
         manager: &mut SetManager<L, P, S, D>,

@@ -143,7 +143,7 @@ static MANAGERS: AtomicU32 = AtomicU32::new(0);
 /// * `add_layout`: the layout is what it is said to be, as long as the set manager has it;
 /// * `frame_done`: the device is done with these frames;
 /// * `free`: the device is done with these sets;
-/// * `free_all` and `shutdown`: the device is done with all sets.
+/// * `free_all` and `shutdown`: the device is done with all sets, and no cache has one.
 ///
 /// `free_after` is safe, since it frees no set itself. The promise of `frame_done` also covers the last
 /// uses that were passed to `free_after`.
@@ -152,8 +152,8 @@ static MANAGERS: AtomicU32 = AtomicU32::new(0);
 ///
 /// If the device panics in a call, or breaks its contract (see
 /// [`DescriptorAllocator::allocate`](crate::DescriptorAllocator::allocate)), the set manager is poisoned.
-/// Then every later call that changes something panics; readers and [`into_device`](Self::into_device)
-/// still work. While the thread unwinds, `end_frame`, `frame_done`, `free`, `free_after`, `free_all`,
+/// Then every later call that changes something panics, [`SetCache::allocate`] included; readers and
+/// [`into_device`](Self::into_device) still work. While the thread unwinds, `end_frame`, `frame_done`, `free`, `free_after`, `free_all`,
 /// `cleanup` and `trim` do nothing instead (`free` and `free_after` return `Ok`), and `shutdown` is
 /// `into_device`. Without std they panic even then, which ends the program. See [After a
 /// panic](crate#after-a-panic).
@@ -464,6 +464,7 @@ impl<L, P, S, D: DescriptorDevice<L, P, S>> SetManager<L, P, S, D> {
     ///
     /// * No pending command buffer refers to a set of the set manager.
     /// * All command buffers that refer to one of them become invalid.
+    /// * No [`SetCache`] has a set of the set manager: [`flush`](SetCache::flush) it before.
     pub unsafe fn free_all(&mut self) {
         self.inner.call_in_drop(|inner| inner.free_all());
     }
@@ -480,6 +481,11 @@ impl<L, P, S, D: DescriptorDevice<L, P, S>> SetManager<L, P, S, D> {
     #[must_use]
     pub fn layout(&self, layout: LayoutHandle) -> Option<&SetLayout<L>> {
         self.inner.get().layout(layout)
+    }
+
+    /// Whether a layout's handle is of this set manager, be the layout removed or not.
+    pub(crate) fn is_owner(&self, layout: LayoutHandle) -> bool {
+        layout.slot.manager == self.number
     }
 
     /// The device, to write sets and to bind them.
@@ -571,6 +577,7 @@ impl<L, P, S, D: DescriptorDevice<L, P, S>> SetManager<L, P, S, D> {
     ///
     /// * No pending command buffer refers to a set of the set manager.
     /// * All command buffers that refer to one of them become invalid.
+    /// * No [`SetCache`] has a set of the set manager: [`flush`](SetCache::flush) it before.
     pub unsafe fn shutdown(self) -> D {
         if !self.inner.is_poisoned() {
             return self.inner.into_inner().shutdown().device.device;

@@ -1,13 +1,35 @@
 //! What holds after a panic, as the crate's docs say under *After a panic*. The language of the proofs has
 //! no unwinding, so the proofs don't cover it.
 
+use core::sync::atomic::{AtomicU32, Ordering};
+
+/// How many calls of the process panicked.
+static PANICS: AtomicU32 = AtomicU32::new(0);
+
+/// How many calls panicked so far. While it stays the same, nothing that was healthy is poisoned.
+#[inline]
+pub(crate) fn panics() -> u32 {
+    PANICS.load(Ordering::Relaxed)
+}
+
 /// A value that is poisoned if a call of it panics. Each access says what it does after that.
 #[derive(Debug)]
 pub(crate) struct Guarded<T> {
     value: T,
 
-    /// Set while a call runs. A panic leaves it set.
+    /// Whether a call panicked.
     is_poisoned: bool,
+}
+
+/// Poisons the value of a running call when it is dropped, which only a panic does.
+struct Poison<'a>(&'a mut bool);
+
+impl Drop for Poison<'_> {
+    #[cold]
+    fn drop(&mut self) {
+        *self.0 = true;
+        PANICS.fetch_add(1, Ordering::Relaxed);
+    }
 }
 
 impl<T> Guarded<T> {
@@ -31,9 +53,9 @@ impl<T> Guarded<T> {
     #[inline]
     pub(crate) fn call<R>(&mut self, call: impl FnOnce(&mut T) -> R) -> R {
         self.checked();
-        self.is_poisoned = true;
+        let poison = Poison(&mut self.is_poisoned);
         let result = call(&mut self.value);
-        self.is_poisoned = false;
+        core::mem::forget(poison);
         result
     }
 

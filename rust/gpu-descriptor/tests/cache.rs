@@ -6,14 +6,16 @@ use gpu_descriptor::manager::{FreeError, LayoutHandle, RequestError, SetCache, S
 use gpu_descriptor::*;
 use refuses::with_refused;
 use std::cell::Cell;
-use std::sync::Mutex;
+use std::panic::{AssertUnwindSafe, catch_unwind};
+use std::sync::{Mutex, PoisonError};
 
-/// A device that numbers its sets, and has at most `most`.
+/// A device that numbers its sets, and has at most `most`. On demand its next call panics.
 struct Device {
     last: Cell<u64>,
     sets: Cell<usize>,
     most: Cell<usize>,
     calls: Cell<usize>,
+    panics: Cell<bool>,
 }
 
 impl DescriptorDevice<u64, u64, u64> for Device {
@@ -34,6 +36,7 @@ impl DescriptorDevice<u64, u64, u64> for Device {
         layouts: impl ExactSizeIterator<Item = &'a u64>,
         sets: &mut impl Extend<u64>,
     ) -> Result<(), DeviceAllocationError> {
+        assert!(!self.panics.take(), "on demand");
         if self.sets.get() + layouts.len() > self.most.get() {
             return Err(DeviceAllocationError::OutOfDeviceMemory);
         }
@@ -48,6 +51,7 @@ impl DescriptorDevice<u64, u64, u64> for Device {
 
     unsafe fn dealloc_descriptor_sets(&self, _: &mut u64, sets: impl Iterator<Item = u64>) {
         self.sets.set(self.sets.get() - sets.count());
+        assert!(!self.panics.take(), "on demand");
     }
 }
 
@@ -81,6 +85,7 @@ fn manager(most: usize) -> (Shared, LayoutHandle) {
             sets: Cell::new(0),
             most: Cell::new(most),
             calls: Cell::new(0),
+            panics: Cell::new(false),
         },
         0,
     );
@@ -211,5 +216,85 @@ fn threads_lose_no_set() {
             });
         }
     });
+    end(shared);
+}
+
+type Sets = SetManager<u64, u64, u64, Device>;
+
+/// Held by each test that has a device panic, since that concerns all caches.
+static PANICS: Mutex<()> = Mutex::new(());
+
+/// Makes a call of which the device panics.
+fn poison<R>(it: &mut Sets, call: impl FnOnce(&mut Sets) -> R) {
+    it.device().panics.set(true);
+    assert!(catch_unwind(AssertUnwindSafe(|| call(it))).is_err());
+    assert!(it.is_poisoned());
+}
+
+/// A cache of a poisoned set manager gives none of its sets.
+fn gives_nothing(cache: &mut SetCache<u64>, it: &mut Sets) {
+    assert!(cache.count() > 0);
+    let panic = catch_unwind(AssertUnwindSafe(|| cache.allocate(|| it))).unwrap_err();
+    let why = panic.downcast::<&str>().unwrap();
+    assert_eq!(*why, "an earlier call of this allocator panicked");
+}
+
+/// The device may have freed sets of the cache by then: the last one did.
+#[test]
+fn a_cache_of_a_poisoned_set_manager() {
+    let _alone = PANICS.lock().unwrap_or_else(PoisonError::into_inner);
+    let (shared, layout) = manager(usize::MAX);
+    let mut it = shared.into_inner().unwrap();
+    let mut cache = SetCache::new(layout, 4).unwrap();
+    let set = cache.allocate(|| &mut it).unwrap();
+    poison(&mut it, |it| it.allocate(layout));
+    gives_nothing(&mut cache, &mut it);
+    // A set that is freed into a cache which never saw the set manager.
+    let mut new = SetCache::new(layout, 4).unwrap();
+    // SAFETY: the device doesn't use it.
+    unsafe { new.free(set, || &mut it) }.unwrap();
+    gives_nothing(&mut new, &mut it);
+    // Nor does a healthy one in its place help.
+    let mut other = manager(1).0.into_inner().unwrap();
+    let answer = new.allocate(|| &mut other);
+    assert_eq!(answer, Err(RequestError::NoLayout));
+    gives_nothing(&mut new, &mut it);
+    it.into_device();
+
+    let (shared, layout) = manager(usize::MAX);
+    let mut it = shared.into_inner().unwrap();
+    let mut cache = SetCache::new(layout, 4).unwrap();
+    let _set = cache.allocate(|| &mut it).unwrap();
+    // SAFETY: as above.
+    poison(&mut it, |it| unsafe { cache.flush(it) });
+    gives_nothing(&mut cache, &mut it);
+    assert_eq!(it.into_device().sets.get(), 1);
+}
+
+/// A panic elsewhere costs a cache one lock.
+#[test]
+fn a_cache_after_a_panic_elsewhere() {
+    let _alone = PANICS.lock().unwrap_or_else(PoisonError::into_inner);
+    let ((shared, layout), (other, others)) = (manager(usize::MAX), manager(usize::MAX));
+    let mut cache = SetCache::new(layout, 4).unwrap();
+    let locks = Cell::new(0);
+    let lock = || {
+        locks.set(locks.get() + 1);
+        shared.lock().unwrap()
+    };
+    let mut sets = vec![cache.allocate(lock).unwrap()];
+    let mut other = other.into_inner().unwrap();
+    poison(&mut other, |it| it.allocate(others));
+    other.into_device();
+    for left in (0..3).rev() {
+        sets.push(cache.allocate(lock).unwrap());
+        assert_eq!((locks.get(), cache.count()), (2, left));
+    }
+    for set in sets {
+        // SAFETY: the device doesn't use it.
+        unsafe { cache.free(set, lock) }.unwrap();
+    }
+    // SAFETY: as above.
+    unsafe { cache.flush(&mut lock()) }.unwrap();
     end(shared);
 }
