@@ -402,6 +402,12 @@ gd_status gd_free_all(gd_allocator allocator);
  * yours: freeing one again is GD_BAD_SET. Frames are numbers of your own, in any order: a set is freed by the
  * next gd_frame_done with its number or a higher one. It allocates no memory.
  *
+ * An allocator has one order of frames, for all queues. If two queues count for themselves, gd_frame_done with a
+ * number of one frees the sets of the other that wait for lower numbers, although its work is still pending. So
+ * do one of these: number the submissions to all queues by one counter, and pass the number up to which all are
+ * done; create an allocator for each queue, with a part of the limit; or free the sets of a submission by
+ * gd_free once its fence or timeline semaphore has signaled.
+ *
  * GD_BAD_SET, GD_NULL_POINTER, GD_BAD_ALLOCATOR, GD_BUSY, GD_INTERNAL_ERROR.
  */
 gd_status gd_free_after(gd_allocator allocator, const gd_set *sets, uint32_t count, uint64_t frame);
@@ -420,7 +426,7 @@ gd_status gd_free_after_current(gd_allocator allocator, const gd_set *sets, uint
 
 /*
  * Frees the sets that wait for this frame or an earlier one, as gd_free does. The device must be done with
- * these frames. UINT64_MAX frees all that wait. It allocates no memory.
+ * these frames, on every queue. UINT64_MAX frees all that wait. It allocates no memory.
  *
  * GD_BAD_ALLOCATOR, GD_BUSY, GD_INTERNAL_ERROR.
  */

@@ -1,7 +1,8 @@
 //! A frame manager: descriptor sets that are freed once the frame that used them last is done.
 //!
 //! A set that the device's work may still read is retired with the frame of that work. When the frame
-//! is finished, the sets that were retired at it or before are freed.
+//! is finished, the sets that were retired at it or before are freed. A manager has one order of frames: a
+//! queue that counts frames for itself needs a manager of its own.
 //!
 //! ```
 //! use gpu_descriptor::frames::FrameManager;

@@ -135,6 +135,15 @@ static MANAGERS: AtomicU32 = AtomicU32::new(0);
 /// `remove_layout`, and all when it refuses a new set. They stay if the request alone exceeds the limit:
 /// see [`allocate_for_frame`](Self::allocate_for_frame).
 ///
+/// # Two queues
+///
+/// A set manager has one order of frames, for all queues. If a compute queue counts frames for itself, its
+/// `frame_done` also frees sets that the graphics queue still uses. So do one of these:
+///
+/// * Call `frame_done` once each queue is done with the frame.
+/// * Make a set manager for each queue, over `&D` or `Arc<D>` of one device, with a part of the limit.
+/// * `free` the sets of a submission once its fence or timeline semaphore has signaled.
+///
 /// # Which calls are unsafe
 ///
 /// The device is the set manager's own, and handles are checked, so a wrong device or a set that isn't live
@@ -306,7 +315,8 @@ impl<L, P, S, D: DescriptorDevice<L, P, S>> SetManager<L, P, S, D> {
         self.inner.call_in_drop(|inner| inner.end_frame());
     }
 
-    /// States that the device is done with this frame and those before it. The sets that wait for these
+    /// States that the device is done with this frame and those before it, on [every
+    /// queue](Self#two-queues). The sets that wait for these
     /// frames are kept or freed, and then pools are destroyed as by
     /// [`DescriptorAllocator::free`](crate::DescriptorAllocator::free). It allocates no memory.
     ///

@@ -961,3 +961,37 @@ fn owns_a_device() {
     let gpu = unsafe { manager.shutdown() };
     assert!(gpu.is_empty());
 }
+
+/// Two queues that count frames for themselves have a set manager each: no set of one is freed by the other's frames.
+#[test]
+fn sets_of_two_queues() {
+    let gpu = Gpu::new();
+    let mut queues = [10, 10].map(|limit| SetManager::new(&gpu, limit));
+    // SAFETY: the device knows no layouts.
+    let layouts = queues
+        .each_mut()
+        .map(|it| unsafe { it.add_layout(layout(0)) }.unwrap());
+    let [graphics, compute] = &mut queues;
+    graphics.skip_to(100).unwrap();
+    compute.skip_to(5_000).unwrap();
+    let set = graphics.allocate(layouts[0]).unwrap();
+    let raw = *graphics.set(set).unwrap();
+    graphics.free_after(&[set], 100).unwrap();
+    let other = compute.allocate(layouts[1]).unwrap();
+    compute.free_after(&[other], 5_000).unwrap();
+    // SAFETY: the compute queue is idle.
+    unsafe { compute.frame_done(5_000) };
+    let waiting = [&*graphics, compute].map(|it| it.counts().waiting);
+    assert_eq!(waiting, [1, 0]);
+    let mut again = compute.allocate_many(layouts[1], 2).unwrap();
+    assert!(again.iter().all(|it| *compute.set(*it).unwrap() != raw));
+    // A set of a submission, once its fence has signaled.
+    // SAFETY: as above.
+    unsafe { compute.free(&[again.remove(0)]) }.unwrap();
+    assert_eq!((compute.outstanding(), graphics.outstanding()), (1, 1));
+    for it in queues {
+        // SAFETY: both queues are idle.
+        unsafe { it.shutdown() };
+    }
+    assert!(gpu.is_empty());
+}
