@@ -127,6 +127,43 @@
 //! }
 //! ```
 //!
+//! ```compile_fail
+//! # use gpu_descriptor::manager::RemoveLayoutError;
+//! fn is_unknown(error: RemoveLayoutError) -> bool {
+//!     match error {
+//!         RemoveLayoutError::NoLayout => true,
+//!     }
+//! }
+//! ```
+//!
+//! ```
+//! # use gpu_descriptor::manager::RemoveLayoutError;
+//! fn is_unknown(error: RemoveLayoutError) -> bool {
+//!     match error {
+//!         RemoveLayoutError::NoLayout => true,
+//!         _ => false,
+//!     }
+//! }
+//! ```
+//!
+//! All fields of numbers to which more may be added (E0638):
+//!
+//! ```compile_fail
+//! # use gpu_descriptor::LayoutStatistics;
+//! fn kept(of: LayoutStatistics) -> u64 {
+//!     let LayoutStatistics { kept, pools: _, pool_sets_used: _, pool_sets_free: _ } = of;
+//!     kept
+//! }
+//! ```
+//!
+//! ```
+//! # use gpu_descriptor::LayoutStatistics;
+//! fn kept(of: LayoutStatistics) -> u64 {
+//!     let LayoutStatistics { kept, pools: _, pool_sets_used: _, pool_sets_free: _, .. } = of;
+//!     kept
+//! }
+//! ```
+//!
 //! A device for a reference to a type that is a device already (E0119):
 //!
 //! ```compile_fail

@@ -87,6 +87,7 @@
 //! # }
 //! ```
 
+mod errors;
 mod statistics;
 
 use crate::counted::{Counted, CountedPool};
@@ -94,7 +95,6 @@ use crate::device::{Adapter, DescriptorDevice};
 use crate::poison::{Guarded, is_panicking, refuse, warn};
 use crate::statistics::PoolCounts;
 use crate::{AllocationError, PoolView, SetLayout, descriptor_manager as inner, kit};
-use core::error::Error;
 use core::fmt;
 use core::sync::atomic::{AtomicU32, Ordering};
 use std_alloc::vec::Vec;
@@ -103,6 +103,7 @@ pub use crate::cache::SetCache;
 pub use crate::descriptor_manager::{
     BeginFrameError, Counts, FreeError, LayoutHandle, RequestError, SetHandle,
 };
+pub use errors::{AddLayoutError, RemoveLayoutError};
 
 /// The number of set managers that were made. Each takes one, which marks its handles.
 static MANAGERS: AtomicU32 = AtomicU32::new(0);
@@ -256,8 +257,13 @@ impl<L, P, S, D: DescriptorDevice<L, P, S>> SetManager<L, P, S, D> {
     /// # Errors
     ///
     /// `NoLayout`: the handle is invalid. Nothing changes.
-    pub fn remove_layout(&mut self, layout: LayoutHandle) -> Result<SetLayout<L>, RequestError> {
-        self.inner.call(|inner| inner.remove_layout(layout))
+    pub fn remove_layout(
+        &mut self,
+        layout: LayoutHandle,
+    ) -> Result<SetLayout<L>, RemoveLayoutError> {
+        let removed = self.inner.call(|inner| inner.remove_layout(layout));
+        // Its one cause.
+        removed.map_err(|_| RemoveLayoutError::NoLayout)
     }
 
     /// Opens the next frame, and returns its number. The first frame has number 1.
@@ -628,36 +634,5 @@ impl Drop for Pools {
         if self.0.count() > 0 {
             warn("Descriptor pools were not destroyed");
         }
-    }
-}
-
-/// An allocation for a layout failed. The error has the layout.
-pub struct AddLayoutError<L>(SetLayout<L>);
-
-impl<L> AddLayoutError<L> {
-    /// The layout that was not added.
-    #[must_use]
-    pub fn into_inner(self) -> SetLayout<L> {
-        self.0
-    }
-}
-
-impl<L> fmt::Debug for AddLayoutError<L> {
-    fn fmt(&self, f: &mut fmt::Formatter<'_>) -> fmt::Result {
-        f.write_str("AddLayoutError(..)")
-    }
-}
-
-impl<L> fmt::Display for AddLayoutError<L> {
-    fn fmt(&self, f: &mut fmt::Formatter<'_>) -> fmt::Result {
-        f.write_str("Host memory exhausted")
-    }
-}
-
-impl<L> Error for AddLayoutError<L> {}
-
-impl From<AllocationError> for RequestError {
-    fn from(error: AllocationError) -> Self {
-        RequestError::Allocation(error)
     }
 }

@@ -5,7 +5,7 @@ mod gpu;
 mod refuses;
 
 use gpu::{Gpu, Set, layout};
-use gpu_descriptor::manager::{FreeError, LayoutHandle, RequestError, SetHandle, SetManager};
+use gpu_descriptor::manager::*;
 use gpu_descriptor::{DescriptorSetLayoutCreateFlags, DescriptorTotalCount, SetLayout};
 use refuses::{bytes, calls, counted, refuse, with_refused};
 use std::collections::HashSet;
@@ -18,7 +18,7 @@ fn add(it: &mut Sets, number: u32) -> LayoutHandle {
 }
 
 /// Removes a layout, without memory.
-fn remove(it: &mut Sets, handle: LayoutHandle) -> Result<u32, RequestError> {
+fn remove(it: &mut Sets, handle: LayoutHandle) -> Result<u32, RemoveLayoutError> {
     let before = calls();
     let removed = counted(|| it.remove_layout(handle));
     assert_eq!(calls(), before, "no memory is taken");
@@ -45,7 +45,7 @@ fn is_unknown(it: &mut Sets, handle: LayoutHandle) {
     it.begin_frame().unwrap();
     assert_eq!(it.allocate_for_frame(handle), Err(RequestError::NoLayout));
     it.end_frame();
-    assert_eq!(remove(it, handle), Err(RequestError::NoLayout));
+    assert_eq!(remove(it, handle), Err(RemoveLayoutError::NoLayout));
 }
 
 #[test]

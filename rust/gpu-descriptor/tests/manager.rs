@@ -783,6 +783,7 @@ fn frames_out_of_turn() {
         RequestError::from(OutOfHostMemory).to_string(),
         BeginFrameError::FrameOpen.to_string(),
         FreeError::NoSet.to_string(),
+        RemoveLayoutError::NoLayout.to_string(),
     ];
     assert_eq!(
         texts,
@@ -790,7 +791,8 @@ fn frames_out_of_turn() {
             "No open frame",
             "Host memory exhausted",
             "Frame already open",
-            "Unknown set"
+            "Unknown set",
+            "Unknown layout"
         ]
     );
     stage.shutdown();

@@ -183,6 +183,7 @@ pub fn layout_flags(flags: u32) -> Result<DescriptorSetLayoutCreateFlags, Layout
 
 /// A layout has flags that the allocator doesn't serve.
 #[derive(Clone, Copy, Debug, PartialEq, Eq)]
+#[non_exhaustive]
 pub struct LayoutFlagsError {
     /// Those flags.
     pub unknown: u32,

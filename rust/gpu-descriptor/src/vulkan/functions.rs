@@ -54,6 +54,7 @@ impl Functions {
 
 /// A loader lacks the function of this name.
 #[derive(Clone, Copy, Debug, PartialEq, Eq)]
+#[non_exhaustive]
 pub struct MissingFunction {
     /// The name of the function.
     pub name: &'static CStr,

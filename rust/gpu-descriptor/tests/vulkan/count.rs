@@ -1,8 +1,6 @@
 //! What bindings and flags of a layout become.
 
-use gpu_descriptor::vulkan::{
-    CountError, DescriptorType, LayoutFlagsError, count_bindings, layout_flags,
-};
+use gpu_descriptor::vulkan::{CountError, DescriptorType, count_bindings, layout_flags};
 use gpu_descriptor::*;
 
 /// Counts bindings, whose types are numbers.
@@ -90,8 +88,8 @@ fn flags_of_a_layout() {
     assert_eq!(layout_flags(2), Ok(bind));
     // Push descriptors, the host alone, descriptor buffers.
     for flag in [0x1, 0x4, 0x10, 0x8000_0000] {
-        let error = LayoutFlagsError { unknown: flag };
-        assert_eq!(layout_flags(flag), Err(error));
+        let error = layout_flags(flag).unwrap_err();
+        assert_eq!(error.unknown, flag);
         assert_eq!(layout_flags(flag | 2), Err(error));
         let text = format!("Layouts with the flags {flag:#x} are not served");
         assert_eq!(error.to_string(), text);
