@@ -239,7 +239,8 @@ typedef struct gd_statistics {
 
 /*
  * The numbers of a layout. Layouts with the same counts and flags share pools, so each number except 'kept'
- * covers the sets of all these layouts, and of those that were removed.
+ * covers the sets of all these layouts, and of those that were removed. 'pool_sets_used' less the 'kept' of all of
+ * them is how many of their sets are live.
  */
 typedef struct gd_layout_statistics {
     uint64_t kept;           /* kept sets of this layout alone */

@@ -51,7 +51,8 @@ pub struct Statistics {
 }
 
 /// The numbers of a layout. Layouts with the same counts and flags share pools, so each number except
-/// `kept` covers the sets of all these layouts, and of those that were removed.
+/// `kept` covers the sets of all these layouts, and of those that were removed. `pool_sets_used` less the
+/// `kept` of all of them is how many of their sets are live.
 #[derive(Clone, Copy, Debug, Default, PartialEq, Eq)]
 #[non_exhaustive]
 pub struct LayoutStatistics {

@@ -350,6 +350,7 @@ fn calls_of_a_set_manager() -> Vec<Call<Rendering>> {
         Answers (on.it.as_mut().unwrap()).update_after_bind_limit();
         Answers (on.it.as_mut().unwrap()).pool_count(on.layout);
         Answers (on.it.as_mut().unwrap()).pool(on.layout, 0).unwrap();
+        Answers (on.it.as_mut().unwrap()).layouts().count();
         Answers (on.it.as_mut().unwrap()).statistics();
         Answers (on.it.as_mut().unwrap()).layout_statistics(on.layout).unwrap();
         Answers (on.it.as_mut().unwrap()).write_statistics(&mut String::new(), |_| 0).unwrap();

@@ -8,6 +8,7 @@ use gpu::{Fault, Gpu, REASONS, Random, Set, layout};
 use gpu_descriptor::manager::{LayoutHandle, SetManager};
 use gpu_descriptor::*;
 use refuses::{calls, counted};
+use std::collections::HashMap;
 use std::fmt;
 
 include!("numbers/device.rs");
@@ -148,6 +149,40 @@ fn numbers_of_layouts() {
     // SAFETY: as above.
     unsafe { it.shutdown() };
     unsafe { other.shutdown() };
+}
+
+/// What a report of leaks reads: each layout with its live sets. Two layouts share pools, and are one row.
+#[test]
+fn lost_sets_show_in_their_layouts() {
+    let device = Gpu::new();
+    let mut it = SetManager::new(&device, 10_000);
+    let handles = [0, 2, 1, 0].map(|number| add(&mut it, layout(number)));
+    let removed = add(&mut it, layout(1));
+    for (handle, lost) in [(0, 0), (1, 3), (3, 2)] {
+        let sets = it.allocate_many(handles[handle], 5).unwrap();
+        // SAFETY: no frame is in flight.
+        unsafe { it.free(&sets[lost..]) }.unwrap();
+    }
+    // One of those waits.
+    let waiting = it.allocate(handles[1]).unwrap();
+    it.free_after(&[waiting], 0).unwrap();
+    it.remove_layout(removed).unwrap();
+    let mut rows = HashMap::new();
+    without_memory(|| it.layouts().count());
+    for handle in it.layouts() {
+        let numbers = it.layout_statistics(handle).unwrap();
+        let of = it.layout(handle).unwrap();
+        let row = rows.entry((of.counts.to_array(), of.flags.bits()));
+        let row = row.or_insert((numbers.pool_sets_used, Vec::new()));
+        row.0 -= numbers.kept;
+        row.1.push(of.layout);
+    }
+    let mut rows: Vec<_> = rows.into_values().collect();
+    rows.sort();
+    assert_eq!(rows, [(0, vec![1]), (2, vec![0, 0]), (4, vec![2])]);
+    assert_eq!(it.outstanding(), 6);
+    // SAFETY: as above.
+    unsafe { it.shutdown() };
 }
 
 /// A layout of all kinds: 105 descriptors, and so 6,720 of 64 sets.

@@ -6,8 +6,10 @@ use crate::statistics::{self, LayoutStatistics, Statistics};
 use core::fmt;
 
 impl<L, P, S, D: DescriptorDevice<L, P, S>> SetManager<L, P, S, D> {
-    /// The handles of all layouts, in no order.
-    fn layouts(&self) -> impl Iterator<Item = LayoutHandle> {
+    /// The handles of all layouts, in no order. It is for a report of leaks: [`LayoutStatistics`] says how
+    /// many sets are live. Going through all takes a time that is linear in the peak of the number of
+    /// layouts, and no memory.
+    pub fn layouts(&self) -> impl Iterator<Item = LayoutHandle> {
         let places = self.generations.iter().zip(0..);
         let handles = places.map(|(generation, place)| {
             let slot = SetHandle {
