@@ -163,10 +163,10 @@ static MANAGERS: AtomicU32 = AtomicU32::new(0);
 /// If the device panics in a call, or breaks its contract (see
 /// [`DescriptorAllocator::allocate`](crate::DescriptorAllocator::allocate)), the set manager is poisoned.
 /// Then every later call that changes something panics, [`SetCache::allocate`] included; readers and
-/// [`into_device`](Self::into_device) still work. While the thread unwinds, `end_frame`, `frame_done`, `free`, `free_after`, `free_all`,
-/// `cleanup` and `trim` do nothing instead (`free` and `free_after` return `Ok`), and `shutdown` is
-/// `into_device`. Without std they panic even then, which ends the program. See [After a
-/// panic](crate#after-a-panic).
+/// [`into_device`](Self::into_device) still work. While the thread unwinds, `end_frame`, `frame_done`,
+/// `free`, `free_after`, `free_all`, `cleanup` and `trim` do nothing instead (`free` and `free_after` return
+/// `Ok`), and `shutdown` is `into_device`. Without std they panic even then, which ends the program. See
+/// [After a panic](crate#after-a-panic).
 ///
 /// A drop without `shutdown` destroys no pools: see [At a drop](crate#at-a-drop). The raw layouts, pools
 /// and sets are dropped before the device.
@@ -322,9 +322,9 @@ impl<L, P, S, D: DescriptorDevice<L, P, S>> SetManager<L, P, S, D> {
     }
 
     /// States that the device is done with this frame and those before it, on [every
-    /// queue](Self#two-queues). The sets that wait for these
-    /// frames are kept or freed, and then pools are destroyed as by
-    /// [`DescriptorAllocator::free`](crate::DescriptorAllocator::free). It allocates no memory.
+    /// queue](Self#two-queues). The sets that wait for these frames are kept or freed, and then pools are
+    /// destroyed as by [`DescriptorAllocator::free`](crate::DescriptorAllocator::free). It allocates no
+    /// memory.
     ///
     /// The device is never done with an open frame, even if `frame` is `u64::MAX`: its sets, and those
     /// whose last use it is, need another call after its `end_frame`. So do sets of later frames.

@@ -6,7 +6,8 @@ use core::sync::atomic::{AtomicU32, Ordering};
 /// How many calls of the process panicked.
 static PANICS: AtomicU32 = AtomicU32::new(0);
 
-/// How many calls panicked so far. While it stays the same, nothing that was healthy is poisoned.
+/// How many calls panicked so far. While it stays the same, nothing that was healthy is poisoned. A thread that
+/// knows of a panic sees its count, so no order is needed.
 #[inline]
 pub(crate) fn panics() -> u32 {
     PANICS.load(Ordering::Relaxed)
