@@ -3,7 +3,9 @@ ghost use Rattle.std.specs.Prelude.{◌≡◌, []};
 ghost use Rattle.descriptor_script.specs.Scripted.Device.{empty_ledger};
 
 use super::is_value;
-use descriptor_lines::{Exit, LineDevice, ScriptedMeaning, kinds_answer, run_lines, run_lines_on};
+use descriptor_lines::{
+    Exit, LineDevice, ScriptedMeaning, kinds_answer, run_lines, run_lines_on, write_bytes,
+};
 use descriptor_script::Answer;
 use std::alloc::{AllocError, Global};
 use std::io::{Read, Write};
@@ -44,6 +46,10 @@ fn counters<D: LineDevice>(device: &D) -> [u64; 4] {
 
 fn answer(answer: &mut String, counts: &[u32; 14]) -> Result<(), AllocError> {
     kinds_answer(answer, counts)
+}
+
+fn write<W: Write>(output: &mut W, bytes: &[u8]) -> Result<(), Exit> {
+    write_bytes(output, bytes)
 }
 
 fn name_of(exit: Exit) -> &'static str {
