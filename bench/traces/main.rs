@@ -40,6 +40,12 @@ mod of_the_crate {
 #[cfg(all(feature = "driver", feature = "original"))]
 extern crate alloc as std_alloc;
 
+/// The device's module has an alias of a set manager over it, which the original hasn't, and no column here uses.
+#[cfg(all(feature = "driver", feature = "original"))]
+mod manager {
+    pub type SetManager<L, P, S, D> = (L, P, S, D);
+}
+
 #[cfg(feature = "original")]
 fn play<G: gpu::Gpu>(gpu: G, _: &str, asked: &Asked) {
     play::run::<G, by_allocator::Allocator<G>>(gpu, asked)
